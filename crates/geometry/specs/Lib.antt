@@ -1,0 +1,4 @@
+pub mod Floors
+pub mod Places
+pub mod Lines
+pub mod Cases
