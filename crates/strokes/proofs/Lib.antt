@@ -1,0 +1,3 @@
+pub mod Inking
+pub mod Filling
+pub mod Reaching
