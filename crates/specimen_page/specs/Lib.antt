@@ -1,0 +1,2 @@
+pub mod Specimens
+pub mod Rows
