@@ -1,0 +1,5 @@
+mod Calls
+mod Counts
+mod Each
+mod Places
+mod Tails

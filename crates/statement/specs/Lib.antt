@@ -1,0 +1,4 @@
+pub mod Statements
+pub mod Reading
+pub mod Views
+pub mod Stops
