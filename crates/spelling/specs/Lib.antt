@@ -1,0 +1,5 @@
+pub mod Spelling
+pub mod Walking
+pub mod Laws
+pub mod Answers
+pub mod Stories

@@ -1,0 +1,5 @@
+// Spellings and stories worked out by hand.
+#[cfg(test)]
+mod spellings;
+#[cfg(test)]
+mod stories;
