@@ -1,0 +1,10 @@
+pub mod Agreeing
+pub mod Steps
+pub mod Cuttings
+pub mod Restates
+pub mod Worked
+pub mod Spelled
+pub mod Keeping
+pub mod Playing
+pub mod Writes
+pub mod Samples

@@ -1,0 +1,11 @@
+pub mod Faults
+pub mod Inks
+pub mod Texts
+pub mod Performing
+pub mod Runs
+pub mod Cuttings
+pub mod Bodies
+pub mod Restated
+pub mod Written
+pub mod Worked
+pub mod Samples
