@@ -1,0 +1,4 @@
+pub mod Entering
+pub mod Places
+pub mod Stores
+pub mod Walking
