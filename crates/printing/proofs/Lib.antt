@@ -1,0 +1,5 @@
+mod Laying
+mod Figures
+mod Joining
+mod Rows
+mod Whole
