@@ -1,0 +1,3 @@
+pub mod Tales
+pub mod Accepts
+pub mod Written

@@ -1,0 +1,3 @@
+pub mod Names
+pub mod Bodies
+pub mod Answers
