@@ -1,4 +1,4 @@
-//! The lettering: eight rows for every code from 32 to 126.
+//! The lettering, copied from the crate `font`: eight rows for every code from 32 to 126.
 
 #[rustfmt::skip]
 pub const FONT: [u8; 760] = [

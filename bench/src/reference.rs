@@ -1,4 +1,4 @@
-//! A plain Rust reader and rasteriser of the rules in docs/, written from them for comparison.
+//! A plain Rust reader and rasteriser of the rules in docs/, for comparison; not an independent reading of them.
 
 use crate::font::FONT;
 
