@@ -1,6 +1,6 @@
 -- The lettering keeps its rules: tests over the whole table, which are computed.
 use Rattle.std.proofs.Common.{◌≡◌, ℕ, ◌+◌, ◌-◌, ◌*◌, ◌<◌, ◌≤◌, Bool, true, not, eqb, ltb, leb, ◌⊎◌, get_or, sym, refl, ◌∙◌, inl, inr, arith}
-use Rattle.std.proofs.lemmas.Bool.{and_parts, and_from, ltb-true, leb-true, eqb-true, lt-ltb, le-leb, eq-eqb, cases_order, not_true, both_ways, cond-true, cond_both}
+use Rattle.std.proofs.lemmas.Bool.{and_parts, and_from, ltb-true, leb-true, eqb-true, lt-ltb, le-leb, eq-eqb, cases_order, not-true, both_ways, cond-true, cond_both}
 use Rattle.font.specs.Glyphs.{rows, in_font, glyph_row, Lawful}
 use Rattle.font.proofs.Below.{all_below, passes, passing}
 
@@ -52,7 +52,7 @@ everywhere P code row none some =
 apart : (i j : ℕ) → i < 95 → j < i → ((row : ℕ) → row < 8 → entry i row ≡ entry j row) → ⊥
 apart i j h l e =
     both_ways (same i j)
-    (not_true (same i j) (passes (λ j. not (same i j)) i (passes (λ i. all_below (λ j. not (same i j)) i) 95 distinct_test i h) j l))
+    (not-true (same i j) (passes (λ j. not (same i j)) i (passes (λ i. all_below (λ j. not (same i j)) i) 95 distinct_test i h) j l))
     (passing (λ row. eqb (entry i row) (entry j row)) 8 (λ row p. eq-eqb (entry i row) (entry j row) (e row p)))
 
 distinct : (a b : ℕ) → 32 ≤ a → a ≤ 126 → 32 ≤ b → b ≤ 126 → ((row : ℕ) → row < 8 → glyph_row a row ≡ glyph_row b row) → a ≡ b

@@ -1,6 +1,6 @@
 -- Definitions recorded and ended.
 use Rattle.std.proofs.Common.{◌≡◌, ℕ, ◌+◌, ◌≤◌, Bool, true, false, cond, not, leb, List, [], ◌∷◌, ◌++◌, length, take, Ok, Err, sym, refl, ap, ◌∙◌, arith, length-append, le-leb}
-use borrow.Author.Tests.{lt-leb, not_true}
+use borrow.Author.Tests.{lt-leb, not-true}
 use Rattle.std.proofs.lemmas.List.{length-take-le}
 use Rattle.sheet.specs.Meanings.{Meaning}
 use Rattle.statement.specs.declared.types.Header.{Header}

@@ -1,6 +1,6 @@
 -- What a passed asking says.
 use Rattle.std.proofs.Common.{◌≡◌, ℕ, ◌+◌, ◌-◌, ◌<◌, ◌≤◌, Bool, true, false, cond, not, ltb, leb, List, length, is_some, Some, None, Ok, Err, Option, Result, sym, refl, ap, ◌∙◌, arith}
-use Rattle.std.proofs.lemmas.Bool.{ltb-true, leb-true, not_true}
+use Rattle.std.proofs.lemmas.Bool.{ltb-true, leb-true, not-true}
 use Rattle.statement.specs.declared.types.Fault.{Fault}
 use Rattle.statement.specs.declared.types.Fault.TheVariants as fault
 use Rattle.statement.specs.declared.types.Header.{Header}
@@ -39,7 +39,7 @@ pub writes : (o : Opened) (used size : ℕ) (s : Said) → write_answer o used s
 writes o used size s e =
     let p = passes (writing_fault s) (stays_short o used (length (spell s))) (leaves_one used size s) e in
     let q = neither (not (frames s)) fault.Misplaced (fault_of s) p.faultless in
-    record { unframed = not_true (frames s) q.0; lawful = q.1; short = p.within; free = room_for used size s p.left }
+    record { unframed = not-true (frames s) q.0; lawful = q.1; short = p.within; free = room_for used size s p.left }
 
 -- a definition that may be opened
 pub record Heads (ns : List (List ℕ)) (used size : ℕ) (n : List ℕ) (h : ℕ) : Type 0 where
@@ -56,6 +56,6 @@ heads ns used size n h e =
     record {
       brief = leb-true (length n) 8 q.0;
       lawful = ap (λ b. first_of (unless b fault.TooLong) (unless (is_name n) fault.WrongCharacter)) q.0 ∙ r.1;
-      known = not_true (is_one_too_many ns n) p.within;
+      known = not-true (is_one_too_many ns n) p.within;
       free = room_for used size (heading n h) p.left;
     }

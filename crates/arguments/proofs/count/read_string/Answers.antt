@@ -5,10 +5,10 @@ use Rattle.arguments.proofs.count.read_string.Goals as goal
 pub returns : goal.returns
 returns c =
     let bytes = c.args.bytes.now in
-    let n = c.in-ok-n.n in
-    let rest = c.in-ok-n.rest.now in
-    let counted = c.in-ok-n.ensures in
-    let split = c.split-at.ensures in
+    let n = c.in_ok-n.n in
+    let rest = c.in_ok-n.rest.now in
+    let counted = c.in_ok-n.ensures in
+    let split = c.split_at.ensures in
     record {
       value = string_found n bytes rest _ _ counted split.front split.back c.args.limit c.if-n-limit.false c.if-rest-n.false;
       place = (

@@ -17,9 +17,9 @@ four t a (p ∷ q ∷ r ∷ u ∷ bs) s h e = e
 
 pub returns-in-len4-up : goal.returns-in-len4-up
 returns-in-len4-up c =
-    let x = to_z-of_z w16 c.coordinate-of.result (record { sfits = c.coordinate-of.type-inv }) ∙ c.coordinate-of.ensures in
-    let y = to_z-of_z w16 c.coordinate-of-in-len4-up.result (record { sfits = c.coordinate-of-in-len4-up.type-inv }) ∙ c.coordinate-of-in-len4-up.ensures in
+    let x = to_z-of_z w16 c.coordinate_of.result (record { sfits = c.coordinate_of.type_inv }) ∙ c.coordinate_of.ensures in
+    let y = to_z-of_z w16 c.coordinate_of-in-len4-up.result (record { sfits = c.coordinate_of-in-len4-up.type_inv }) ∙ c.coordinate_of-in-len4-up.ensures in
     record {
-      value = four c.args.trace c.args.aim c.args.rest.now (shape_by c.lawful-travel.result) (search rules) (c.lawful-travel.ensures.value ∙ simp (x, y));
-      parts = c.lawful-travel.ensures.parts;
+      value = four c.args.trace c.args.aim c.args.rest.now (shape_by c.lawful_travel.result) (search rules) (c.lawful_travel.ensures.value ∙ simp (x, y));
+      parts = c.lawful_travel.ensures.parts;
     }

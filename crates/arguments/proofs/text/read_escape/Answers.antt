@@ -7,7 +7,7 @@ use Rattle.arguments.proofs.text.read_escape.Goals as goal
 pub returns-in-len1-up : goal.returns-in-len1-up
 returns-in-len1-up c =
     let e = first_rest c.args.rest.now 0 (search rules) in
-    let r = c.escape-with in
+    let r = c.escape_with in
     record {
       value = r.ensures.value ∙ ap escaping (sym e);
       parts = λ code. subst (λ (bs : List ℕ). PartsBy r.result (code ∷ bs)) (sym e) (r.ensures.parts code);

@@ -7,11 +7,11 @@ use Rattle.calls.proofs.perform.+perform_perform_body.Given as goal
 abbrev pub decreases-perform : goal.decreases-perform
 decreases-perform g l = 2 * (8 - l.calls.now.used)
 
-abbrev pub decreases-perform-body : goal.decreases-perform-body
-decreases-perform-body g l = 2 * (8 - l.calls.now.used) + 1
+abbrev pub decreases-perform_body : goal.decreases-perform_body
+decreases-perform_body g l = 2 * (8 - l.calls.now.used) + 1
 
-abbrev pub invariant-perform-body-loop-end : goal.invariant-perform-body-loop-end
-invariant-perform-body-loop-end g l =
+abbrev pub invariant-perform_body-loop-end : goal.invariant-perform_body-loop-end
+invariant-perform_body-loop-end g l =
     let f = perform (8 - l.calls.used) (entries_of l.table) (open_of l.calls) in
     let j = length (open_of l.calls) in
     (l.start ≤ l.end)

@@ -35,8 +35,8 @@ returns-in-Picture c =
     let number = c.args.script.now.line in
     let line = c.args.line.now in
     let rest = lines_of c.args.script.now.rest.now in
-    let p = c.open-picture.ensures in
-    let slip = c.open-picture.result in
+    let p = c.open_picture.ensures in
+    let slip = c.open_picture.result in
     record {
       shorter = c.fill.ensures.shorter;
       ledger =
@@ -64,8 +64,8 @@ pub returns-in-Definition : goal.returns-in-Definition
 returns-in-Definition c =
     let w = c.args.writer in
     let h = c.in-Definition.heading in
-    let p = c.open-definition-slip.ensures in
-    let slip = c.open-definition-slip.result in
+    let p = c.open_definition-slip.ensures in
+    let slip = c.open_definition-slip.result in
     let out = w.buffer.now in
     let ns = known w.names in
     let number = c.args.script.now.line in

@@ -15,7 +15,7 @@ loop-line-preserved c =
     let after = c.advance-writer.new.script in
     let x = c.in-Some.ensures.next in
     let a = c.advance-writer.ensures in
-    let none : after.failure ≡ None = not_failed after.failure (sym c.is-some.ensures ∙ c.if-is-some.false) in (
+    let none : after.failure ≡ None = not_failed after.failure (sym c.is_some.ensures ∙ c.if-is_some.false) in (
       none,
       omega arith,
       omega arith,
@@ -26,8 +26,8 @@ loop-line-preserved c =
           ∙ c.loop-line.invariant.4,
     )
 
-pub returns-then-is-some : goal.returns-then-is-some
-returns-then-is-some c =
+pub returns-then-is_some : goal.returns-then-is_some
+returns-then-is_some c =
     let w = c.loop-line.writer in
     let r = c.advance-writer.result in
     let script = c.loop-line.script in
@@ -37,7 +37,7 @@ returns-then-is-some c =
     let a = c.advance-writer.ensures in
     record {
       ledger =
-          failed_end after.failure r.buffer.now (idle (known r.names) r.used) after.line (lines_of after.rest.now) (sym c.is-some.ensures ∙ c.if-is-some.true)
+          failed_end after.failure r.buffer.now (idle (known r.names) r.used) after.line (lines_of after.rest.now) (sym c.is_some.ensures ∙ c.if-is_some.true)
           ∙ a.ledger
           ∙ on_line w.buffer.now (idle (known w.names) w.used) next.line c.in-Some.line.now (lines_of next.rest.now) script.line (lines_of script.rest.now) x.0 x.1
           ∙ c.loop-line.invariant.4;

@@ -69,7 +69,7 @@ returns c =
     let script = c.loop-line.script in
     let r = c.close-2.result in
     let w = c.close-2.ensures in
-    let x = c.in-default.ensures.next in
+    let x = c.in_default.ensures.next in
     let same = ap length x.1 in
     record {
       shorter = omega arith;

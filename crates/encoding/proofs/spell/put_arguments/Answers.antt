@@ -7,8 +7,8 @@ use Rattle.spelling.proofs.Lengths.{heads, calls}
 use Rattle.encoding.proofs.Puts.{sets_then}
 use Rattle.encoding.proofs.spell.put_arguments.Goals as goal
 
-pub put-string-next-requires : goal.put-string-next-requires
-put-string-next-requires c =
+pub put_string-next-requires : goal.put_string-next-requires
+put_string-next-requires c =
     let h = heads (said_by c.args.statement) (bytes_of c.in-Subhed.name) c.in-Subhed.header (ap said_by c.in-Subhed.is) c.requires.fits in
     omega arith
 
@@ -17,13 +17,13 @@ put-requires c =
     let h = heads (said_by c.args.statement) (bytes_of c.in-Subhed.name) c.in-Subhed.header (ap said_by c.in-Subhed.is) c.requires.fits in
     omega arith
 
-pub put-string-next-requires-in-Insts : goal.put-string-next-requires-in-Insts
-put-string-next-requires-in-Insts c =
+pub put_string-next-requires-in-Insts : goal.put_string-next-requires-in-Insts
+put_string-next-requires-in-Insts c =
     let h = calls (said_by c.args.statement) (bytes_of c.in-Insts.name) (tail_said c.in-Insts.tail) (ap said_by c.in-Insts.is) c.requires.fits in
     omega arith
 
-pub put-tail-requires : goal.put-tail-requires
-put-tail-requires c =
+pub put_tail-requires : goal.put_tail-requires
+put_tail-requires c =
     let h = calls (said_by c.args.statement) (bytes_of c.in-Insts.name) (tail_said c.in-Insts.tail) (ap said_by c.in-Insts.is) c.requires.fits in
     record { fits = h.fits; room = omega arith }
 
@@ -34,9 +34,9 @@ returns-in-Subhed c =
     record {
       after = omega arith;
       bytes =
-          sets_then c.args.buffer.now c.put-string-next.new.buffer c.put.new.buffer (spell_string n) (1 ∷ c.header-byte.result ∷ []) c.args.place c.put-string-next.result
-          c.put-string-next.ensures.bytes c.put-string-next.ensures.after c.put.ensures.bytes
-          ∙ ap (λ b. sets c.args.buffer.now c.args.place (spell_string n ++ (1 ∷ b ∷ []))) c.header-byte.ensures
+          sets_then c.args.buffer.now c.put_string-next.new.buffer c.put.new.buffer (spell_string n) (1 ∷ c.header_byte.result ∷ []) c.args.place c.put_string-next.result
+          c.put_string-next.ensures.bytes c.put_string-next.ensures.after c.put.ensures.bytes
+          ∙ ap (λ b. sets c.args.buffer.now c.args.place (spell_string n ++ (1 ∷ b ∷ []))) c.header_byte.ensures
           ∙ ap (λ s. sets c.args.buffer.now c.args.place (spell_arguments (said_by s))) (sym c.in-Subhed.is);
     }
 
@@ -48,7 +48,7 @@ returns-in-Insts c =
     record {
       after = omega arith;
       bytes =
-          sets_then c.args.buffer.now c.put-string-next-in-Insts.new.buffer c.put-tail.new.buffer (spell_string n) (length t ∷ t) c.args.place c.put-string-next-in-Insts.result
-          c.put-string-next-in-Insts.ensures.bytes c.put-string-next-in-Insts.ensures.after c.put-tail.ensures.bytes
+          sets_then c.args.buffer.now c.put_string-next-in-Insts.new.buffer c.put_tail.new.buffer (spell_string n) (length t ∷ t) c.args.place c.put_string-next-in-Insts.result
+          c.put_string-next-in-Insts.ensures.bytes c.put_string-next-in-Insts.ensures.after c.put_tail.ensures.bytes
           ∙ ap (λ s. sets c.args.buffer.now c.args.place (spell_arguments (said_by s))) (sym c.in-Insts.is);
     }

@@ -7,8 +7,8 @@ pub returns : goal.returns
 returns c =
     let s = said_by c.args.statement in
     let old = c.args.buffer.now in
-    let end = c.put-arguments.new.buffer in
+    let end = c.put_arguments.new.buffer in
     let written =
-    statement_bytes s old c.put-next.new.buffer end c.code-of.result c.put-next.result c.code-of.ensures c.put-next.ensures.bytes c.put-next.ensures.after
-    c.put-arguments.ensures.bytes c.requires.room in
-    record { size = omega arith; bytes = written; reads = front_reads s c.put-arguments.result end old c.requires.fits (omega arith) written }
+    statement_bytes s old c.put-next.new.buffer end c.code_of.result c.put-next.result c.code_of.ensures c.put-next.ensures.bytes c.put-next.ensures.after
+    c.put_arguments.ensures.bytes c.requires.room in
+    record { size = omega arith; bytes = written; reads = front_reads s c.put_arguments.result end old c.requires.fits (omega arith) written }

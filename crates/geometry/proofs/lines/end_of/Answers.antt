@@ -9,5 +9,5 @@ returns c =
     let p = c.args.point in
     record {
       value = search rules;
-      near = subst (λ (z : ℤ × ℤ). Near z) (sym c.pixel-of.ensures) (near_pixel s.pixels p.x p.y s.most (search rules) (search rules));
+      near = subst (λ (z : ℤ × ℤ). Near z) (sym c.pixel_of.ensures) (near_pixel s.pixels p.x p.y s.most (search rules) (search rules));
     }

@@ -12,8 +12,8 @@ returns c =
     let w = within m 400000000 c.requires.1.1 in
     let over : to_z w32 (of_z w32 (to_z w32 (of_z w32 (pos 2 *ℤ to_z w32 (of_z w32 m))) +ℤ to_z w32 n)) ≡ pos 2 *ℤ m +ℤ pos n = omega (arith, ints) in
     let under : to_z w32 (of_z w32 (pos 2 *ℤ to_z w32 n)) ≡ pos (2 * n) = omega (arith, ints) in
-    let is : to_z w32 (of_z w32 c.div-euclid.result) ≡ rounded n m =
-    to_z-of_z w32 c.div-euclid.result (search rules) ∙ c.div-euclid.ensures ∙ (λ i. int_div_euclid (over i) (under i)) in
+    let is : to_z w32 (of_z w32 c.div_euclid.result) ≡ rounded n m =
+    to_z-of_z w32 c.div_euclid.result (search rules) ∙ c.div_euclid.ensures ∙ (λ i. int_div_euclid (over i) (under i)) in
     record {
       value = is;
       small = subst (λ (z : ℤ). nat_abs z ≤ 500000000) (sym is) (size_rounded n m c.requires.0 c.requires.1.0 c.requires.1.1);

@@ -21,8 +21,8 @@ module _ (a c : ℤ) (k : ℕ) (h : nat_abs a ≤ 8192) (g : nat_abs c ≤ 8192)
   passed : to_z w32 (of_z w32 (to_z w32 (of_z w32 (to_z w32 (of_z w32 c) -ℤ to_z w32 (of_z w32 a))) *ℤ to_z w32 k)) ≡ (c -ℤ a) *ℤ pos k
   passed = ap (λ (z : ℤ). to_z w32 (of_z w32 z)) product ∙ to_z-of_z w32 ((c -ℤ a) *ℤ pos k) product_fits
 
-pub overflow-mul-c : goal.overflow-mul-c
-overflow-mul-c t =
+pub overflow_mul-c : goal.overflow_mul-c
+overflow_mul-c t =
     let l : t.args.k ≤ 16384 = omega arith in
     subst (λ (z : ℤ). SFits w32 z) (sym (product t.args.a t.args.c t.args.k t.requires.0 t.requires.1.0 l))
     (product_fits t.args.a t.args.c t.args.k t.requires.0 t.requires.1.0 l)
@@ -34,8 +34,8 @@ nearest-requires t =
     let s = size_steps t.args.a t.args.c t.args.k t.requires.0 t.requires.1.0 l in
     (search rules, (omega arith, subst (λ (z : ℤ). nat_abs z ≤ 400000000) (sym e) (le_trans s (lit≤ tt))))
 
-pub overflow-add-result : goal.overflow-add-result
-overflow-add-result t =
+pub overflow_add-result : goal.overflow_add-result
+overflow_add-result t =
     let u = within t.args.a 8192 t.requires.0 in
     let v = within t.nearest.result 500000000 t.nearest.ensures.small in
     omega (arith, ints)

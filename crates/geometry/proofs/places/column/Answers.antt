@@ -28,26 +28,26 @@ quotient n p v d e h f q =
     ∙ ap (λ (z : ℤ). floor_div (to_z w64 (of_z w64 z)) 32768) (scaled n p v e h f)
     ∙ ap (λ (z : ℤ). floor_div z 32768) (to_z-of_z w64 _ (scaled_fits n v h f))
 
-pub overflow-mul-v : goal.overflow-mul-v
-overflow-mul-v c =
+pub overflow_mul-v : goal.overflow_mul-v
+overflow_mul-v c =
     let s = c.args.side in
     subst (λ (z : ℤ). SFits w64 z) (sym (scaled s.pixels c.pixels.result c.args.v c.pixels.ensures s.most c.ranges.v)) (scaled_fits s.pixels c.args.v s.most c.ranges.v)
 
 place_fits : (n : ℕ) (v : ℤ) → n ≤ 2048 → SFits w32 v → SFits w32 (place n v)
 place_fits n v h f = size_fits w32 (place n v) (lt_of_le_of_lt (place_small n v h f) (lit< tt))
 
-answered : (c : goal.After-div-euclid) → to_z w64 (of_z w64 c.div-euclid.result) ≡ place c.args.side.pixels c.args.v
+answered : (c : goal.After-div_euclid) → to_z w64 (of_z w64 c.div_euclid.result) ≡ place c.args.side.pixels c.args.v
 answered c =
     let s = c.args.side in
-    to_z-of_z w64 c.div-euclid.result (search rules)
-    ∙ quotient s.pixels c.pixels.result c.args.v c.div-euclid.result c.pixels.ensures s.most c.ranges.v c.div-euclid.ensures
+    to_z-of_z w64 c.div_euclid.result (search rules)
+    ∙ quotient s.pixels c.pixels.result c.args.v c.div_euclid.result c.pixels.ensures s.most c.ranges.v c.div_euclid.ensures
 
-pub overflow-cast-result : goal.overflow-cast-result
-overflow-cast-result c = subst (λ (z : ℤ). SFits w32 z) (sym (answered c)) (place_fits c.args.side.pixels c.args.v c.args.side.most c.ranges.v)
+pub overflow_cast-result : goal.overflow_cast-result
+overflow_cast-result c = subst (λ (z : ℤ). SFits w32 z) (sym (answered c)) (place_fits c.args.side.pixels c.args.v c.args.side.most c.ranges.v)
 
 pub returns : goal.returns
 returns c =
     let s = c.args.side in
-    let is : to_z w32 (of_z w32 (to_z w64 (of_z w64 c.div-euclid.result))) ≡ place s.pixels c.args.v =
+    let is : to_z w32 (of_z w32 (to_z w64 (of_z w64 c.div_euclid.result))) ≡ place s.pixels c.args.v =
     ap (λ (z : ℤ). to_z w32 (of_z w32 z)) (answered c) ∙ to_z-of_z w32 (place s.pixels c.args.v) (place_fits s.pixels c.args.v s.most c.ranges.v) in
     record { value = is; small = subst (λ (z : ℤ). nat_abs z ≤ 268435456) (sym is) (place_small s.pixels c.args.v s.most c.ranges.v) }

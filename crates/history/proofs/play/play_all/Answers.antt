@@ -10,64 +10,64 @@ use Rattle.history.specs.Tales.{idle, where_fine, taken, book}
 use Rattle.history.proofs.Tales.{busy_same, book_skip, book_picture, book_definition, book_from, ok_is, none_fine}
 use Rattle.history.proofs.play.play_all.Goals as goal
 
-pub loop-next-preserved-then-is-ok : goal.loop-next-preserved-then-is-ok
-loop-next-preserved-then-is-ok c =
+pub loop-next-preserved-then-is_ok : goal.loop-next-preserved-then-is_ok
+loop-next-preserved-then-is_ok c =
     let w = c.loop-next.writer in
-    let p = c.open-picture.ensures in
+    let p = c.open_picture.ensures in
     let ops = c.args.operations.now in
     let rest = drop (c.loop-next.next + 1) ops in
-    let ok = sym c.ask-picture.ensures ∙ ok_is c.ask-picture.result (sym c.is-ok.ensures.value ∙ c.if-is-ok.true) in (
-      c.play-slip-writer.ensures.far.1,
-      c.play-slip-writer.ensures.tied ∙ p.tied ∙ c.loop-next.invariant.1,
-      c.play-slip-writer.ensures.book
+    let ok = sym c.ask_picture.ensures ∙ ok_is c.ask_picture.result (sym c.is_ok.ensures.value ∙ c.if-is_ok.true) in (
+      c.play_slip-writer.ensures.far.1,
+      c.play_slip-writer.ensures.tied ∙ p.tied ∙ c.loop-next.invariant.1,
+      c.play_slip-writer.ensures.book
           ∙ busy_same rest p.bytes p.opened (ap known p.names) p.used
           ∙ book_picture w.buffer.now (known w.names) w.used rest ok
           ∙ book_from w.buffer.now (idle (known w.names) w.used) ops c.loop-next.next Picture c.loop-next-test.true c.in-Picture.is
           ∙ c.loop-next.invariant.2,
     )
 
-pub loop-next-preserved-else-is-ok : goal.loop-next-preserved-else-is-ok
-loop-next-preserved-else-is-ok c =
+pub loop-next-preserved-else-is_ok : goal.loop-next-preserved-else-is_ok
+loop-next-preserved-else-is_ok c =
     let w = c.loop-next.writer in
     let st = idle (known w.names) w.used in
     let ops = c.args.operations.now in
     let rest = drop (c.loop-next.next + 1) ops in
-    let refused = none_fine c.ask-picture.result erase (sym c.is-ok.ensures.value ∙ c.if-is-ok.false) in
-    let skips : taken (length w.buffer.now) st None Picture ≡ None = ap (λ z. where_fine z erase) (sym c.ask-picture.ensures) ∙ refused in (
+    let refused = none_fine c.ask_picture.result erase (sym c.is_ok.ensures.value ∙ c.if-is_ok.false) in
+    let skips : taken (length w.buffer.now) st None Picture ≡ None = ap (λ z. where_fine z erase) (sym c.ask_picture.ensures) ∙ refused in (
       omega arith,
       c.loop-next.invariant.1,
       book_skip w.buffer.now st Picture rest skips
           ∙ book_from w.buffer.now st ops c.loop-next.next Picture c.loop-next-test.true c.in-Picture.is ∙ c.loop-next.invariant.2,
     )
 
-pub loop-next-preserved-then-is-ok-2 : goal.loop-next-preserved-then-is-ok-2
-loop-next-preserved-then-is-ok-2 c =
+pub loop-next-preserved-then-is_ok-2 : goal.loop-next-preserved-then-is_ok-2
+loop-next-preserved-then-is_ok-2 c =
     let w = c.loop-next.writer in
-    let p = c.open-definition-slip.ensures in
+    let p = c.open_definition-slip.ensures in
     let m = c.in-Definition.name in
     let h = c.in-Definition.header in
     let ops = c.args.operations.now in
     let rest = drop (c.loop-next.next + 1) ops in
-    let ok = sym c.ask-definition.ensures ∙ ok_is c.ask-definition.result (sym c.is-ok-in-Definition.ensures.value ∙ c.if-is-ok-2.true) in (
-      c.play-slip-writer-then-is-ok-2.ensures.far.1,
-      c.play-slip-writer-then-is-ok-2.ensures.tied ∙ p.tied ∙ c.loop-next.invariant.1,
-      c.play-slip-writer-then-is-ok-2.ensures.book
+    let ok = sym c.ask_definition.ensures ∙ ok_is c.ask_definition.result (sym c.is_ok-in-Definition.ensures.value ∙ c.if-is_ok-2.true) in (
+      c.play_slip-writer-then-is_ok-2.ensures.far.1,
+      c.play_slip-writer-then-is_ok-2.ensures.tied ∙ p.tied ∙ c.loop-next.invariant.1,
+      c.play_slip-writer-then-is_ok-2.ensures.book
           ∙ busy_same rest p.bytes (p.opened ∙ ap opened.Definition p.used) p.names p.used
           ∙ book_definition w.buffer.now (known w.names) w.used rest m h ok
           ∙ book_from w.buffer.now (idle (known w.names) w.used) ops c.loop-next.next (Definition m h) c.loop-next-test.true c.in-Definition.is
           ∙ c.loop-next.invariant.2,
     )
 
-pub loop-next-preserved-else-is-ok-2 : goal.loop-next-preserved-else-is-ok-2
-loop-next-preserved-else-is-ok-2 c =
+pub loop-next-preserved-else-is_ok-2 : goal.loop-next-preserved-else-is_ok-2
+loop-next-preserved-else-is_ok-2 c =
     let w = c.loop-next.writer in
     let st = idle (known w.names) w.used in
     let m = c.in-Definition.name in
     let h = c.in-Definition.header in
     let ops = c.args.operations.now in
     let rest = drop (c.loop-next.next + 1) ops in
-    let refused = none_fine c.ask-definition.result (heading m.now h) (sym c.is-ok-in-Definition.ensures.value ∙ c.if-is-ok-2.false) in
-    let skips : taken (length w.buffer.now) st None (Definition m h) ≡ None = ap (λ z. where_fine z (heading m.now h)) (sym c.ask-definition.ensures) ∙ refused in (
+    let refused = none_fine c.ask_definition.result (heading m.now h) (sym c.is_ok-in-Definition.ensures.value ∙ c.if-is_ok-2.false) in
+    let skips : taken (length w.buffer.now) st None (Definition m h) ≡ None = ap (λ z. where_fine z (heading m.now h)) (sym c.ask_definition.ensures) ∙ refused in (
       omega arith,
       c.loop-next.invariant.1,
       book_skip w.buffer.now st (Definition m h) rest skips

@@ -37,8 +37,8 @@ returns c =
     let job = c.args.job.now in
     let r = c.args.reader.now in
     let out = c.args.out.now in
-    let n = c.in-ok-side.side in
-    let a : admission job ≡ Ok n = sym c.in-ok-side.ensures in
+    let n = c.in_ok-side.side in
+    let a : admission job ≡ Ok n = sym c.in_ok-side.ensures in
     let d = drawing_is r job n a in
     let answer = c.draw.ensures.answer ∙ ap (λ (x : Config). fit_answer (length (shown x)) (length out)) d
     ∙ sym (ap (λ (o : Result ℕ Refusal). answer_by o (length (job_text_by r job)) (length out)) a) in

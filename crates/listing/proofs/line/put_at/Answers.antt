@@ -10,10 +10,10 @@ returns c =
     let y = c.in-Some.y in
     let fx : SFits w16 x = search rules in
     let fy : SFits w16 y = search rules in
-    let r = c.put-pair.result in
+    let r = c.put_pair.result in
     let out = vec_items c.args.out.now in
     let mid = vec_items c.put.new.out in
-    let end = vec_items c.put-pair.new.out in
+    let end = vec_items c.put_pair.new.out in
     made_at r out end (at_text (Some (x, y))) (at_text c.args.at) (ap at_text (sym c.in-Some.is))
-    (made_then r out end mid (codes " AT") (pair_text x y) c.in-ok-put.ensures
-    (made_at r mid end (pair_text (to_z w16 (of_z w16 x)) (to_z w16 (of_z w16 y))) (pair_text x y) (λ i. pair_text (to_z-of_z w16 x fx i) (to_z-of_z w16 y fy i)) c.put-pair.ensures))
+    (made_then r out end mid (codes " AT") (pair_text x y) c.in_ok-put.ensures
+    (made_at r mid end (pair_text (to_z w16 (of_z w16 x)) (to_z w16 (of_z w16 y))) (pair_text x y) (λ i. pair_text (to_z-of_z w16 x fx i) (to_z-of_z w16 y fy i)) c.put_pair.ensures))

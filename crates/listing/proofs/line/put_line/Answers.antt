@@ -21,11 +21,11 @@ returns c =
     let place = decimal c.args.placed.place in
     let out = vec_items c.args.out.now in
     let three = vec_items c.put-2.new.out in
-    let end = vec_items c.put-arguments.new.out in
-    let r = c.put-arguments.result in
+    let end = vec_items c.put_arguments.new.out in
+    let r = c.put_arguments.result in
     let ind = indent c.args.standing s in
     let front =
-    so_far out (vec_items c.put-place.new.out) (vec_items c.put.new.out) three place ind (name_of s) c.indent-of.result.now c.name-of.result.now
-    c.in-ok-put-place.ensures c.in-ok-put.ensures c.indent-of.ensures c.in-ok-put-2.ensures c.name-of.ensures in
+    so_far out (vec_items c.put_place.new.out) (vec_items c.put.new.out) three place ind (name_of s) c.indent_of.result.now c.name_of.result.now
+    c.in_ok-put_place.ensures c.in_ok-put.ensures c.indent_of.ensures c.in_ok-put-2.ensures c.name_of.ensures in
     made_at r out end (((place ++ (32 ∷ [])) ++ (ind ++ name_of s)) ++ argument_text s) (line_of c.args.standing (told_by c.args.placed))
-    (regrouped place ind (name_of s) (argument_text s)) (made_then r out end three ((place ++ (32 ∷ [])) ++ (ind ++ name_of s)) (argument_text s) front c.put-arguments.ensures)
+    (regrouped place ind (name_of s) (argument_text s)) (made_then r out end three ((place ++ (32 ∷ [])) ++ (ind ++ name_of s)) (argument_text s) front c.put_arguments.ensures)

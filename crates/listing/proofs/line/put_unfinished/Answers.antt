@@ -4,5 +4,5 @@ use Rattle.listing.proofs.line.put_unfinished.Goals as goal
 
 pub returns : goal.returns
 returns c =
-    made_then c.put-number.result (vec_items c.args.out.now) (vec_items c.put-number.new.out) (vec_items c.put.new.out) (codes "unfinished at ") (decimal c.args.place)
-    c.in-ok-put.ensures c.put-number.ensures
+    made_then c.put_number.result (vec_items c.args.out.now) (vec_items c.put_number.new.out) (vec_items c.put.new.out) (codes "unfinished at ") (decimal c.args.place)
+    c.in_ok-put.ensures c.put_number.ensures

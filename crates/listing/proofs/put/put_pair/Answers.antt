@@ -11,10 +11,10 @@ returns c =
     let y = c.args.y in
     let fx : SFits w16 x = c.ranges.x in
     let fy : SFits w16 y = c.ranges.y in
-    let r = c.put-coordinate-2.result in
+    let r = c.put_coordinate-2.result in
     let out = vec_items c.args.out.now in
-    let end = vec_items c.put-coordinate-2.new.out in
+    let end = vec_items c.put_coordinate-2.new.out in
     let one = 32 ∷ signed_decimal (to_z w16 (of_z w16 x)) in
     let two = 32 ∷ signed_decimal (to_z w16 (of_z w16 y)) in
     made_at r out end (one ++ two) (pair_text x y) (λ i. pair_text (to_z-of_z w16 x fx i) (to_z-of_z w16 y fy i))
-    (made_then r out end (vec_items c.put-coordinate.new.out) one two c.in-ok-put-coordinate.ensures c.put-coordinate-2.ensures)
+    (made_then r out end (vec_items c.put_coordinate.new.out) one two c.in_ok-put_coordinate.ensures c.put_coordinate-2.ensures)

@@ -4,5 +4,5 @@ use Rattle.listing.proofs.put.put_place.Goals as goal
 
 pub returns : goal.returns
 returns c =
-    made_then c.put.result (vec_items c.args.out.now) (vec_items c.put.new.out) (vec_items c.put-number.new.out) (decimal c.args.place) (32 ∷ [])
-    c.in-ok-put-number.ensures c.put.ensures
+    made_then c.put.result (vec_items c.args.out.now) (vec_items c.put.new.out) (vec_items c.put_number.new.out) (decimal c.args.place) (32 ∷ [])
+    c.in_ok-put_number.ensures c.put.ensures

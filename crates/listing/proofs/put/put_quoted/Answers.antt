@@ -15,12 +15,12 @@ all_put before mid after bs i h e f = then before mid after (34 ∷ []) (flat_ma
 
 pub loop-b-preserved : goal.loop-b-preserved
 loop-b-preserved c =
-    one_more (vec_items c.put.new.out) (vec_items c.loop-b.out) (vec_items c.put-quoted-byte.new.out) c.args.bytes.now c.loop-b.b-index c.loop-b-test.true
-    c.loop-b.invariant c.in-ok-put-quoted-byte.ensures
+    one_more (vec_items c.put.new.out) (vec_items c.loop-b.out) (vec_items c.put_quoted_byte.new.out) c.args.bytes.now c.loop-b.b-index c.loop-b-test.true
+    c.loop-b.invariant c.in_ok-put_quoted_byte.ensures
 
 pub returns : goal.returns
 returns c =
     made_then c.put-2.result (vec_items c.args.out.now) (vec_items c.put-2.new.out) (vec_items c.loop-b.out) (34 ∷ flat_map quoted_byte c.args.bytes.now) (34 ∷ [])
     (all_put (vec_items c.args.out.now) (vec_items c.put.new.out) (vec_items c.loop-b.out) c.args.bytes.now c.loop-b.b-index c.loop-b-test.false
-    c.in-ok-put.ensures c.loop-b.invariant)
+    c.in_ok-put.ensures c.loop-b.invariant)
     c.put-2.ensures

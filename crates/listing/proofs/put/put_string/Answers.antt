@@ -5,5 +5,5 @@ use Rattle.listing.proofs.put.put_string.Goals as goal
 
 pub returns : goal.returns
 returns c =
-    made_then c.put-quoted.result (vec_items c.args.out.now) (vec_items c.put-quoted.new.out) (vec_items c.put.new.out) (32 ∷ []) (quoted c.args.bytes.now)
-    c.in-ok-put.ensures c.put-quoted.ensures
+    made_then c.put_quoted.result (vec_items c.args.out.now) (vec_items c.put_quoted.new.out) (vec_items c.put.new.out) (32 ∷ []) (quoted c.args.bytes.now)
+    c.in_ok-put.ensures c.put_quoted.ensures

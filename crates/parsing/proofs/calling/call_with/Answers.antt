@@ -9,6 +9,6 @@ returns-in-len1-up-3 c =
     let rest = c.args.rest.now in
     let some : 1 ≤ length rest = search rules in
     record {
-      value = c.call-to.ensures.value ∙ called (bytes_of name) rest some c.if-t-gt-LONGEST-TAIL.false c.if-bytes-t.false;
-      parts = λ ws lies e. c.call-to.ensures.parts ws lies (cut_lies (name.at + length (bytes_of name)) ws rest some c.if-bytes-t.false e);
+      value = c.call_to.ensures.value ∙ called (bytes_of name) rest some c.if-t-gt-LONGEST_TAIL.false c.if-bytes-t.false;
+      parts = λ ws lies e. c.call_to.ensures.parts ws lies (cut_lies (name.at + length (bytes_of name)) ws rest some c.if-bytes-t.false e);
     }

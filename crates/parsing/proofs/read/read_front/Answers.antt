@@ -7,7 +7,7 @@ use Rattle.parsing.proofs.read.read_front.Goals as goal
 pub returns-in-len1-up : goal.returns-in-len1-up
 returns-in-len1-up c =
     let e = sym (first_rest c.args.bytes.now 0 (search rules)) in
-    let r = c.read-code in
+    let r = c.read_code in
     record {
       value = r.ensures.value ∙ ap (reading c.args.standing) e;
       parts = subst (λ (bs : List ℕ). PartsBy r.result bs) e r.ensures.parts;

@@ -9,7 +9,7 @@ returns-in-len1-up c =
     let bytes = c.args.bytes.now in
     let n = get_or bytes 0 0 in
     let some : 1 ≤ length bytes = search rules in
-    let split = c.split-at.ensures in
+    let split = c.split_at.ensures in
     let fits : n ≤ length bytes - 1 = omega (arith, simp (length-take, length-drop) at c.if-n-rest.true) in
     record {
       value = λ k. as_name k bytes some c.if-n-le8.true c.if-n-rest.true split.front split.back;

@@ -8,6 +8,6 @@ pub returns-in-len1-up : goal.returns-in-len1-up
 returns-in-len1-up c =
     let bytes = c.args.bytes.now in
     record {
-      value = c.coded-tail.ensures.value ∙ ap tail_of (sym (first_rest bytes 0 (search rules)));
-      parts = λ ws e. c.coded-tail.ensures.parts ws (rest_lies c.args.at ws bytes e (search rules));
+      value = c.coded_tail.ensures.value ∙ ap tail_of (sym (first_rest bytes 0 (search rules)));
+      parts = λ ws e. c.coded_tail.ensures.parts ws (rest_lies c.args.at ws bytes e (search rules));
     }

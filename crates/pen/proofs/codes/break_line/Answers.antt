@@ -9,5 +9,5 @@ pub returns-in-Wrapping : goal.returns-in-Wrapping
 returns-in-Wrapping c i =
     let p = c.args.beam.now in
     let f : SFits w16 p.y = search rules in
-    let e = simp to_z-of_z at c.line-below.ensures in
-    c.go-to.ensures i (next_line p) e ∙ breaks c.args.manner (beam_at p i) c.in-Wrapping.is (sym c.passes-margin.ensures ∙ c.if-passes-margin.true)
+    let e = simp to_z-of_z at c.line_below.ensures in
+    c.go_to.ensures i (next_line p) e ∙ breaks c.args.manner (beam_at p i) c.in-Wrapping.is (sym c.passes_margin.ensures ∙ c.if-passes_margin.true)

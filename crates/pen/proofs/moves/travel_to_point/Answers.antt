@@ -10,5 +10,5 @@ returns g c =
     let f4 : SFits w32 c.from-2.result = search rules in
     let e1 = simp to_z-of_z at c.from.ensures in
     let e2 = simp to_z-of_z at c.from-2.ensures in
-    let h = simp to_z-of_z at c.travel-to.ensures.after in
-    record { after = rw (e1, e2) at h; tied = c.travel-to.ensures.tied }
+    let h = simp to_z-of_z at c.travel_to.ensures.after in
+    record { after = rw (e1, e2) at h; tied = c.travel_to.ensures.tied }

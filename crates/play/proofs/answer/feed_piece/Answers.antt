@@ -6,6 +6,6 @@ pub returns : goal.returns
 returns g c =
     record {
       after = c.feed.ensures.after;
-      bytes = All-from_get_or (λ b. b < 256) c.args.piece.now 0 (λ i h. let f = c.type-inv.piece i in omega (arith, f.fits));
+      bytes = All-from_get_or (λ b. b < 256) c.args.piece.now 0 (λ i h. let f = c.type_inv.piece i in omega (arith, f.fits));
       tied = c.feed.ensures.tied;
     }

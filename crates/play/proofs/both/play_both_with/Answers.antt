@@ -3,10 +3,10 @@ use Rattle.play.proofs.both.play_both_with.Goals as goal
 
 pub returns : goal.returns
 returns g c =
-    let x = c.play-with-its-report.ensures in
-    let y = c.play-with-other-report.ensures in
+    let x = c.play_with-its_report.ensures in
+    let y = c.play_with-other_report.ensures in
     record {
-      played = λ u v. both_played (g.A.Sheet.meaning c.args.a.now) (g.B.Sheet.meaning c.args.b.now) c.args.its-calls.now c.args.other-calls.now (g.A.Sheet.meaning c.play-with-its-report.new.sheet) (g.B.Sheet.meaning c.play-with-other-report.new.sheet) c.play-with-its-report.result c.play-with-other-report.result (x.played u) (y.played v) x.bytes;
+      played = λ u v. both_played (g.A.Sheet.meaning c.args.a.now) (g.B.Sheet.meaning c.args.b.now) c.args.its_calls.now c.args.other_calls.now (g.A.Sheet.meaning c.play_with-its_report.new.sheet) (g.B.Sheet.meaning c.play_with-other_report.new.sheet) c.play_with-its_report.result c.play_with-other_report.result (x.played u) (y.played v) x.bytes;
       firstTied = x.tied;
       secondTied = y.tied;
     }

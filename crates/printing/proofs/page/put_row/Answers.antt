@@ -7,7 +7,7 @@ pub loop-column-preserved : goal.loop-column-preserved
 loop-column-preserved g c = (
   length-set _ _ _ ∙ c.loop-column.invariant.0,
   pixel_laid (pixel_text (g.S.Sheet.meaning c.args.sheet.now) c.args.row) c.loop-column.out c.args.out.now c.args.at c.loop-column.column
-      c.pixel-byte.result c.pixel-byte.ensures c.loop-column.invariant.1,
+      c.pixel_byte.result c.pixel_byte.ensures c.loop-column.invariant.1,
 )
 
 pub returns : goal.returns

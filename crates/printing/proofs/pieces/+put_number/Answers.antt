@@ -11,26 +11,26 @@ returns-then-n-lt10 t c = record {
 pub bounds-out-at : goal.bounds-out-at
 bounds-out-at t c = omega (arith, one_figure c.args.n c.if-n-lt10.true)
 
-pub put-number-k-requires : goal.put-number-k-requires
-put-number-k-requires t c = (search rules, omega (arith, more_figures c.args.n c.if-n-lt10.false c.ranges.n.fits))
+pub put_number-k-requires : goal.put_number-k-requires
+put_number-k-requires t c = (search rules, omega (arith, more_figures c.args.n c.if-n-lt10.false c.ranges.n.fits))
 
 pub bounds-out-k : goal.bounds-out-k
 bounds-out-k t c =
-    let next = c.put-number-k.ensures.next in
-    let kept = c.put-number-k.auto.out in
+    let next = c.put_number-k.ensures.next in
+    let kept = c.put_number-k.auto.out in
     omega (arith, more_figures c.args.n c.if-n-lt10.false c.ranges.n.fits)
 
-pub overflow-add-result-2 : goal.overflow-add-result-2
-overflow-add-result-2 t c =
-    let next = c.put-number-k.ensures.next in
+pub overflow_add-result-2 : goal.overflow_add-result-2
+overflow_add-result-2 t c =
+    let next = c.put_number-k.ensures.next in
     let few = few_figures c.args.n c.ranges.n.fits in
     omega (arith, more_figures c.args.n c.if-n-lt10.false c.ranges.n.fits)
 
 pub returns : goal.returns
 returns t c =
-    let e = c.put-number-k.ensures in
+    let e = c.put_number-k.ensures in
     let next = e.next in
     record {
       next = omega (arith, more_figures c.args.n c.if-n-lt10.false c.ranges.n.fits);
-      bytes = figure_laid c.put-number-k.new.out c.args.out.now c.args.at c.args.n c.put-number-k.result c.if-n-lt10.false c.ranges.n.fits next e.bytes;
+      bytes = figure_laid c.put_number-k.new.out c.args.out.now c.args.at c.args.n c.put_number-k.result c.if-n-lt10.false c.ranges.n.fits next e.bytes;
     }

@@ -12,4 +12,4 @@ part_laid out text part at h e =
     ∙ sym (append_assoc (take at out) text (drop (at + length text) out)) ∙ sym (sets-eq text out at h)
 
 pub returns : goal.returns
-returns c = part_laid c.args.out.now c.args.text.now c.copy-from-slice.new.self c.args.at c.requires c.copy-from-slice.ensures.after
+returns c = part_laid c.args.out.now c.args.text.now c.copy_from_slice.new.self c.args.at c.requires c.copy_from_slice.ensures.after

@@ -11,10 +11,10 @@ loop-row-preserved c =
     let at = c.args.at in
     let code = c.args.code in
     let k = c.loop-row.row in (
-      c.put-row.ensures.side ∙ c.loop-row.invariant.0,
-      c.put-row.ensures.named ∙ c.loop-row.invariant.1,
+      c.put_row.ensures.side ∙ c.loop-row.invariant.0,
+      c.put_row.ensures.named ∙ c.loop-row.invariant.1,
       part_more n (λ w row. any_below (letter_inks_at n at code w row) 5) t.bytes.now k s.side.pixels s.bytes.now _ (λ w. any_below (letter_inks_at s.side.pixels at code w k) 5) c.loop-row.invariant.0
-          (λ w. ap (λ (m : ℕ). any_below (letter_inks_at m at code w k) 5) (sym c.loop-row.invariant.0)) c.put-row.ensures.gained c.loop-row.invariant.2,
+          (λ w. ap (λ (m : ℕ). any_below (letter_inks_at m at code w k) 5) (sym c.loop-row.invariant.0)) c.put_row.ensures.gained c.loop-row.invariant.2,
     )
 
 pub returns : goal.returns

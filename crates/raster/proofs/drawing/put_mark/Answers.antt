@@ -12,7 +12,7 @@ returns-in-Dot c =
     record {
       after = page_gains n _ t.bytes.now _ c.args.mark c.put.ensures.side (λ w.
           c.put.ensures.gained w
-          ∙ ap (λ (p : ℤ × ℤ). inked_at n t.bytes.now w || (on_sheet n w && same_pixel p w)) c.pixel-of.ensures
+          ∙ ap (λ (p : ℤ × ℤ). inked_at n t.bytes.now w || (on_sheet n w && same_pixel p w)) c.pixel_of.ensures
           ∙ ap (λ (m : Mark). inked_at n t.bytes.now w || (on_sheet n w && reaches n m w)) (sym c.in-Dot.is));
       named = c.put.ensures.named;
     }
@@ -23,11 +23,11 @@ returns-in-Line c =
     let n = t.side.pixels in
     let l = c.between.ensures in
     record {
-      after = page_gains n _ t.bytes.now _ c.args.mark c.put-line.ensures.side (λ w.
-          c.put-line.ensures.gained w
+      after = page_gains n _ t.bytes.now _ c.args.mark c.put_line.ensures.side (λ w.
+          c.put_line.ensures.gained w
           ∙ (λ i. inked_at n t.bytes.now w || (on_sheet n w && line_inks (l.from i) (l.to i) c.in-Line.mode w))
           ∙ ap (λ (m : Mark). inked_at n t.bytes.now w || (on_sheet n w && reaches n m w)) (sym c.in-Line.is));
-      named = c.put-line.ensures.named;
+      named = c.put_line.ensures.named;
     }
 
 pub returns-in-Letter : goal.returns-in-Letter
@@ -35,8 +35,8 @@ returns-in-Letter c =
     let t = c.args.sheet.now in
     let n = t.side.pixels in
     record {
-      after = page_gains n _ t.bytes.now _ c.args.mark c.put-letter.ensures.side (λ w.
-          c.put-letter.ensures.gained w
+      after = page_gains n _ t.bytes.now _ c.args.mark c.put_letter.ensures.side (λ w.
+          c.put_letter.ensures.gained w
           ∙ ap (λ (m : Mark). inked_at n t.bytes.now w || (on_sheet n w && reaches n m w)) (sym c.in-Letter.is));
-      named = c.put-letter.ensures.named;
+      named = c.put_letter.ensures.named;
     }

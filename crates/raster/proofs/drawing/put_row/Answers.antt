@@ -4,7 +4,7 @@ use Rattle.mark.specs.Covers.{letter_inks_at, letter_dot, has_dot, same_pixel}
 use Rattle.raster.specs.Bits.{inked_at}
 use Rattle.raster.proofs.Inking.{part_more, part_passed, parts_end, dot_own}
 use Rattle.raster.proofs.drawing.put_row.Goals as goal
-use Rattle.raster.proofs.drawing.put_row.Goals.{then-has-dot, else-has-dot}
+use Rattle.raster.proofs.drawing.put_row.Goals.{then-has_dot, else-has_dot}
 
 pub loop-column-preserved : goal.loop-column-preserved
 loop-column-preserved c =
@@ -15,22 +15,22 @@ loop-column-preserved c =
     let code = c.args.code in
     let row = c.args.row in
     let k = c.loop-column.column in
-    elim c.if-has-dot.branch [
-      | then-has-dot w ↦ (
+    elim c.if-has_dot.branch [
+      | then-has_dot w ↦ (
         ap (λ x. x.side.pixels) w.sheet-is ∙ w.put.ensures.side ∙ c.loop-column.invariant.0,
         ap (λ x. x.bytes.name) w.sheet-is ∙ w.put.ensures.named ∙ c.loop-column.invariant.1,
         λ z.
             ap (λ x. inked_at n x.bytes.now z) w.sheet-is
-            ∙ part_more n (λ v. letter_inks_at n at code v row) t.bytes.now k s.side.pixels s.bytes.now _ (same_pixel w.letter-dot.result) c.loop-column.invariant.0
-            (dot_own n s.side.pixels at code row k w.letter-dot.result c.loop-column.invariant.0 (sym w.if-has-dot.ensures) w.letter-dot.ensures) w.put.ensures.gained c.loop-column.invariant.2 z,
+            ∙ part_more n (λ v. letter_inks_at n at code v row) t.bytes.now k s.side.pixels s.bytes.now _ (same_pixel w.letter_dot.result) c.loop-column.invariant.0
+            (dot_own n s.side.pixels at code row k w.letter_dot.result c.loop-column.invariant.0 (sym w.if-has_dot.ensures) w.letter_dot.ensures) w.put.ensures.gained c.loop-column.invariant.2 z,
       )
-      | else-has-dot w ↦ (
+      | else-has_dot w ↦ (
         ap (λ x. x.side.pixels) w.sheet-is ∙ c.loop-column.invariant.0,
         ap (λ x. x.bytes.name) w.sheet-is ∙ c.loop-column.invariant.1,
         λ z.
             ap (λ x. inked_at n x.bytes.now z) w.sheet-is
             ∙ part_passed n (λ v. letter_inks_at n at code v row) t.bytes.now k s.bytes.now
-            (λ v. and_left (has_dot code row k) (same_pixel (letter_dot n at row k) v) (sym w.if-has-dot.ensures)) c.loop-column.invariant.2 z,
+            (λ v. and_left (has_dot code row k) (same_pixel (letter_dot n at row k) v) (sym w.if-has_dot.ensures)) c.loop-column.invariant.2 z,
       )
     ]
 

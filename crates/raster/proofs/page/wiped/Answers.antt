@@ -7,8 +7,8 @@ use Rattle.raster.proofs.page.wiped.Goals as goal
 zeros : (bytes : List ℕ) (m : ℕ) → bytes ≡ replicate m 0 → length bytes ≡ m → Zeros bytes
 zeros bytes m e l k h = ap (λ (b : List ℕ). get_or b k 0) e ∙ get_or-replicate m k 0 0 (omega (arith, l))
 
-pub invariant-of-result : goal.invariant-of-result
-invariant-of-result c =
+pub invariant_of-result : goal.invariant_of-result
+invariant_of-result c =
     let bytes = c.fill.new.self in
     let whole = c.fill.ensures.len ∙ c.requires in
     (whole, (zeros_clean c.args.side.pixels bytes (zeros bytes _ (c.fill.ensures.after (λ y e. e)) c.fill.ensures.len) whole, tt))

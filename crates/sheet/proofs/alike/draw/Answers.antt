@@ -11,7 +11,7 @@ loop-mark-preserved g c =
     let e = c.mark.ensures in (
       marked_more ms i _ _ _ _ h e.after c.loop-mark.invariant.0,
       e.tied ∙ c.loop-mark.invariant.1,
-      takes_more ms i _ _ _ c.loop-mark.taken _ _ h e.after (c.is-ok-taken.ensures.value ∙ ap is_ok e.answer) c.loop-mark.invariant.2,
+      takes_more ms i _ _ _ c.loop-mark.taken _ _ h e.after (c.is_ok-taken.ensures.value ∙ ap is_ok e.answer) c.loop-mark.invariant.2,
     )
 
 pub returns : goal.returns

@@ -9,7 +9,7 @@ loop-mark-preserved g c =
     let ms = c.args.marks.now in
     let i = c.loop-mark.mark-index in
     let h = c.loop-mark-test.true in
-    let e = c.mark-both-same.ensures in (
+    let e = c.mark_both-same.ensures in (
       marked_more ms i _ _ _ _ h e.first c.loop-mark.invariant.0,
       marked_more ms i _ _ _ _ h e.second c.loop-mark.invariant.1,
       answers_more ms i _ _ _ _ _ c.loop-mark.same _ _ h e.first e.second e.answers c.loop-mark.invariant.2,

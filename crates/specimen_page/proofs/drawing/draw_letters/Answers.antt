@@ -7,8 +7,8 @@ pub loop-k-preserved : goal.loop-k-preserved
 loop-k-preserved g c =
     let meaning = g.S.Sheet.meaning in
     let b = meaning c.loop-k.sheet in (
-      next_letter (meaning c.args.sheet.now) b (meaning c.mark.new.self) c.loop-k.k c.loop-k.taken c.is-ok-taken.result
-          c.loop-k.invariant.0 (c.mark.ensures.after ∙ ap (marked b) c.letter.ensures) (c.is-ok-taken.ensures.value ∙ ap is_ok c.mark.ensures.answer),
+      next_letter (meaning c.args.sheet.now) b (meaning c.mark.new.self) c.loop-k.k c.loop-k.taken c.is_ok-taken.result
+          c.loop-k.invariant.0 (c.mark.ensures.after ∙ ap (marked b) c.letter.ensures) (c.is_ok-taken.ensures.value ∙ ap is_ok c.mark.ensures.answer),
       c.mark.ensures.tied ∙ c.loop-k.invariant.1,
     )
 

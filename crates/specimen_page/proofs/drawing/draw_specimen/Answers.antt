@@ -8,13 +8,13 @@ unfolding specimen_marks
 returns g c =
     let meaning = g.S.Sheet.meaning in
     let a = meaning c.args.sheet.now in
-    let p = meaning c.draw-frames-frames.new.sheet in
+    let p = meaning c.draw_frames-frames.new.sheet in
     let q = meaning c.draw-dots.new.sheet in
-    let r = meaning c.draw-letters-letters.new.sheet in
-    let x = c.draw-frames-frames.ensures in
+    let r = meaning c.draw_letters-letters.new.sheet in
+    let x = c.draw_frames-frames.ensures in
     let y = c.draw-dots.ensures in
-    let z = c.draw-letters-letters.ensures in
+    let z = c.draw_letters-letters.ensures in
     let dots = drawn_as_lem p q _ dot_row c.draw-dots.result c.dots.ensures (y.after, y.answer) in
-    let first = drawn_both a p q frames_of dot_row c.draw-frames-frames.result c.draw-dots.result (x.after, x.answer) dots in
-    let d = drawn_both a q r (frames_of ++ dot_row) all_letters _ c.draw-letters-letters.result first (z.after, z.answer) in
+    let first = drawn_both a p q frames_of dot_row c.draw_frames-frames.result c.draw-dots.result (x.after, x.answer) dots in
+    let d = drawn_both a q r (frames_of ++ dot_row) all_letters _ c.draw_letters-letters.result first (z.after, z.answer) in
     record { answer = d.1; after = d.0; tied = z.tied ∙ y.tied ∙ x.tied }

@@ -8,5 +8,5 @@ loop-column-preserved g c =
     let a = g.S.Sheet.meaning c.args.sheet.now in (
       omega (arith, c.loop-column.invariant.0, c.one-count.ensures.small),
       count_more (inked_in a c.args.row) c.loop-column.column c.loop-column.count c.one-count.result
-          c.loop-column.invariant.1 (c.one-count.ensures.value ∙ ap count_one c.is-inked.ensures),
+          c.loop-column.invariant.1 (c.one-count.ensures.value ∙ ap count_one c.is_inked.ensures),
     )

@@ -16,5 +16,5 @@ three xs ys zs n a b c d r ea eb ec ed er =
 
 pub returns : goal.returns
 returns c =
-    three bare_names travel_names other_names c.args.name.now c.bare-named.result c.travel-named.result c.other-named.result c.or.result c.or-2.result
-    c.bare-named.ensures c.travel-named.ensures c.other-named.ensures c.or.ensures c.or-2.ensures
+    three bare_names travel_names other_names c.args.name.now c.bare_named.result c.travel_named.result c.other_named.result c.or.result c.or-2.result
+    c.bare_named.ensures c.travel_named.ensures c.other_named.ensures c.or.ensures c.or-2.ensures

@@ -28,7 +28,7 @@ loop-i-preserved c =
     let i = c.loop-i.i in
     let xs = take c.loop-i.len c.loop-i.scratch in
     let more = drop (i + 1) t in
-    elim c.match-turn-at.branch [
+    elim c.match-turn_at.branch [
       | goal.in-Go w ↦ (
         (λ k. before (take (w.len-is k) (w.scratch-is k)) (unquoted_at (w.spot-is k) more)) ∙ go_on c.loop-i.spot t i xs c.loop-i.invariant.0 w.in-Go.next c.loop-i-test.true w.in-Go.ensures.is,
         omega (arith, w.len-is, c.loop-i.invariant.1),

@@ -7,6 +7,6 @@ use Rattle.std.proofs.lemmas.Bool.Decides.{Decides-eqb}
 pub returns : goal.returns
 returns c =
     record {
-      is = stripped c.args.front.now c.args.text.now c.strip-prefix.result (strip_prefix_is Decides-eqb c.args.text.now c.args.front.now c.strip-prefix.result c.strip-prefix.ensures.cases);
+      is = stripped c.args.front.now c.args.text.now c.strip_prefix.result (strip_prefix_is Decides-eqb c.args.text.now c.args.front.now c.strip_prefix.result c.strip_prefix.ensures.cases);
       within = search rules;
     }

@@ -6,7 +6,7 @@ pub returns : goal.returns
 returns c =
     let t = c.args.text.now in
     record {
-      first = c.split-at.ensures.front ∙ ap (λ n. take n t) c.word-length.ensures.is ∙ take_word t;
-      others = c.split-at.ensures.back ∙ ap (λ n. drop n t) c.word-length.ensures.is ∙ drop_word t;
-      within = omega (arith, c.split-at.ensures.back_len);
+      first = c.split_at.ensures.front ∙ ap (λ n. take n t) c.word_length.ensures.is ∙ take_word t;
+      others = c.split_at.ensures.back ∙ ap (λ n. drop n t) c.word_length.ensures.is ∙ drop_word t;
+      within = omega (arith, c.split_at.ensures.back_len);
     }

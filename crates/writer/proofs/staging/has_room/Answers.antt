@@ -5,4 +5,4 @@ use Rattle.writer.proofs.Staged.{room_test}
 use Rattle.writer.proofs.staging.has_room.Goals as goal
 
 pub returns : goal.returns
-returns c = room_test c.args.body (length (spell (said_by c.args.statement.now))) c.extent.result c.saturating-add.result c.extent.ensures c.saturating-add.ensures
+returns c = room_test c.args.body (length (spell (said_by c.args.statement.now))) c.extent.result c.saturating_add.result c.extent.ensures c.saturating_add.ensures

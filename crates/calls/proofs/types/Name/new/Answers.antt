@@ -6,4 +6,4 @@ front : (xs ys zs : List ℕ) → ys ≡ xs → take (length xs) (ys ++ zs) ≡ 
 front xs ys zs e = ap (λ y. take (length xs) (y ++ zs)) e ∙ take_at xs zs _ refl
 
 pub returns : goal.returns
-returns c = front c.args.letters.now c.copy-from-slice.new.self _ c.copy-from-slice.ensures.after
+returns c = front c.args.letters.now c.copy_from_slice.new.self _ c.copy_from_slice.ensures.after

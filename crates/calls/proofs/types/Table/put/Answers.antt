@@ -19,7 +19,7 @@ returns-then-len-lt32 c h =
     let w = c.args.definition.now in
     let few : length es < 32 = search rules in
     let l : length T < 32 = simp length-map few in
-    ap (map entry_of) c.push-reserved.ensures.items ∙ map-append entry_of es (w ∷ []) ∙ stored_new T (entry_of w) (sym c.in-None.is ∙ h) l
+    ap (map entry_of) c.push_reserved.ensures.items ∙ map-append entry_of es (w ∷ []) ∙ stored_new T (entry_of w) (sym c.in-None.is ∙ h) l
 
 pub returns-else-len-lt32 : goal.returns-else-len-lt32
 returns-else-len-lt32 c h =

@@ -12,7 +12,7 @@ pub returns : goal.returns
 returns c =
     let t = c.args.self.now in
     let z = c.args.pixel in
-    let is = place_is t.side.pixels c.pixels.result c.row-bytes.result z (search rules) (search rules) c.pixels.ensures c.row-bytes.ensures in
+    let is = place_is t.side.pixels c.pixels.result c.row_bytes.result z (search rules) (search rules) c.pixels.ensures c.row_bytes.ensures in
     record {
       value = is;
       inside = subst (λ (m : ℕ). m < length t.bytes.now) (sym is) (byte_within t.side.pixels (length t.bytes.now) z c.requires t.whole);

@@ -8,8 +8,8 @@ use Rattle.raster.proofs.page.BitSheet.wipe.Goals as goal
 level : (m n a b : ℕ) → a ≡ page_bytes m → b ≡ page_bytes n → m ≡ n → a ≡ b
 level m n a b p q e = p ∙ ap (λ (s : ℕ). page_bytes s) e ∙ sym q
 
-pub invariant-of-self : goal.invariant-of-self
-invariant-of-self c =
+pub invariant_of-self : goal.invariant_of-self
+invariant_of-self c =
     let t = c.loop-i.self in
     let len = level _ _ _ _ t.whole c.args.self.now.whole c.loop-i.invariant.0 in
     (length-set t.bytes.now c.loop-i.i 0 ∙ t.whole, (clean_zero t.side.pixels c.loop-i.i t.bytes.now (omega (arith, len)) t.spare, tt))

@@ -10,35 +10,35 @@ bounds-self-self g c =
     let l : length r.held ≡ 516 = search rules in
     omega (arith, roomy r l)
 
-pub settle-held-requires : goal.settle-held-requires
-settle-held-requires g c =
+pub settle_held-requires : goal.settle_held-requires
+settle_held-requires g c =
     let r = c.args.self.now in
     let l : length r.held ≡ 516 = search rules in
     record { within = omega (arith, roomy r l); counted = omega (arith, r.ended, r.limited) }
 
-pub invariant-of-self-in-More : goal.invariant-of-self-in-More
-invariant-of-self-in-More g c =
+pub invariant_of-self-in-More : goal.invariant_of-self-in-More
+invariant_of-self-in-More g c =
     let r = c.args.self.now in
     let l : length r.held ≡ 516 = search rules in
     let s = c.in-More.ensures in (
       still_within r c.args.byte l,
-      (s.waits, (omega (arith, r.placed), (omega (arith, c.if-self-ge16777216.false), (one_picture r (g.S.Sheet.meaning c.args.sheet.now) c.args.byte came.More c.settle-held.new.state (g.S.Sheet.meaning c.settle-held.new.sheet) (s.after (take r.len r.held)), tt)))),
+      (s.waits, (omega (arith, r.placed), (omega (arith, c.if-self-ge16777216.false), (one_picture r (g.S.Sheet.meaning c.args.sheet.now) c.args.byte came.More c.settle_held.new.state (g.S.Sheet.meaning c.settle_held.new.sheet) (s.after (take r.len r.held)), tt)))),
     )
 
-pub invariant-of-self-in-Done : goal.invariant-of-self-in-Done
-invariant-of-self-in-Done g c =
+pub invariant_of-self-in-Done : goal.invariant_of-self-in-Done
+invariant_of-self-in-Done g c =
     let r = c.args.self.now in
     let s = c.in-Done.ensures in (
       omega arith,
-      (refl, (omega arith, (omega (arith, c.if-self-ge16777216.false), (one_picture r (g.S.Sheet.meaning c.args.sheet.now) c.args.byte came.Done c.settle-held.new.state (g.S.Sheet.meaning c.settle-held.new.sheet) (s.after (take r.len r.held)), tt)))),
+      (refl, (omega arith, (omega (arith, c.if-self-ge16777216.false), (one_picture r (g.S.Sheet.meaning c.args.sheet.now) c.args.byte came.Done c.settle_held.new.state (g.S.Sheet.meaning c.settle_held.new.sheet) (s.after (take r.len r.held)), tt)))),
     )
 
-pub invariant-of-self-in-Refused : goal.invariant-of-self-in-Refused
-invariant-of-self-in-Refused g c =
+pub invariant_of-self-in-Refused : goal.invariant_of-self-in-Refused
+invariant_of-self-in-Refused g c =
     let r = c.args.self.now in
     let s = c.in-Refused.ensures in (
       omega arith,
-      (refl, (omega arith, (omega (arith, c.if-self-ge16777216.false), (one_picture r (g.S.Sheet.meaning c.args.sheet.now) c.args.byte (came.Refused c.in-Refused.refusal) c.settle-held.new.state (g.S.Sheet.meaning c.settle-held.new.sheet) (s.after (take r.len r.held)), tt)))),
+      (refl, (omega arith, (omega (arith, c.if-self-ge16777216.false), (one_picture r (g.S.Sheet.meaning c.args.sheet.now) c.args.byte (came.Refused c.in-Refused.refusal) c.settle_held.new.state (g.S.Sheet.meaning c.settle_held.new.sheet) (s.after (take r.len r.held)), tt)))),
     )
 
 pub returns-in-More : goal.returns-in-More
@@ -46,8 +46,8 @@ returns-in-More g c =
     let m : g.row.S.Denot → Meaning = g.S.Sheet.meaning in
     let r = c.args.self.now in
     let l : length r.held ≡ 516 = search rules in
-    let w = c.settle-held.new.state in
-    let n = m c.settle-held.new.sheet in
+    let w = c.settle_held.new.state in
+    let n = m c.settle_held.new.sheet in
     let s = c.in-More.ensures in
     record {
       after = ap (λ z. after_byte r z (grown r c.args.byte) w n) c.in-Live.is ∙ stepped r (m c.args.sheet.now) c.args.byte came.More w n (s.after (take r.len r.held)) c.in-Live.is c.if-self-ge16777216.false l;
@@ -59,8 +59,8 @@ returns-in-Done g c =
     let m : g.row.S.Denot → Meaning = g.S.Sheet.meaning in
     let r = c.args.self.now in
     let l : length r.held ≡ 516 = search rules in
-    let w = c.settle-held.new.state in
-    let n = m c.settle-held.new.sheet in
+    let w = c.settle_held.new.state in
+    let n = m c.settle_held.new.sheet in
     let s = c.in-Done.ensures in
     record {
       after = ap (λ z. after_byte r z [] w n) c.in-Live.is ∙ stepped r (m c.args.sheet.now) c.args.byte came.Done w n (s.after (take r.len r.held)) c.in-Live.is c.if-self-ge16777216.false l;
@@ -72,8 +72,8 @@ returns-in-Refused g c =
     let m : g.row.S.Denot → Meaning = g.S.Sheet.meaning in
     let r = c.args.self.now in
     let l : length r.held ≡ 516 = search rules in
-    let w = c.settle-held.new.state in
-    let n = m c.settle-held.new.sheet in
+    let w = c.settle_held.new.state in
+    let n = m c.settle_held.new.sheet in
     let s = c.in-Refused.ensures in
     record {
       after = stepped r (m c.args.sheet.now) c.args.byte (came.Refused c.in-Refused.refusal) w n (s.after (take r.len r.held)) c.in-Live.is c.if-self-ge16777216.false l;

@@ -8,7 +8,7 @@ pub returns-then-bytes-room : goal.returns-then-bytes-room
 returns-then-bytes-room c m h e =
     let w = c.args.self.now in
     let bs = c.args.bytes.now in
-    ap (λ z. turn_of (Err z) w m) c.refused-at.ensures
+    ap (λ z. turn_of (Err z) w m) c.refused_at.ensures
     ∙ no_room w m h c.args.home bs c.args.at (omega (arith, length-append (entry_of w.draft).body bs, c.room.ensures))
 
 pub returns : goal.returns

@@ -8,19 +8,19 @@ use Rattle.strokes.proofs.Reaching.{dot_is, line_reaches, line_misses, letter_re
 use Rattle.strokes.proofs.table.StrokeTableSheet.inked.Goals as goal
 use Rattle.strokes.proofs.table.StrokeTableSheet.inked.Goals.{in-Dot+else-dot-inks, in-Line+else-loop-k-test, in-Letter+else-loop-row-test}
 
-pub returns-then-not-on-sheet : goal.returns-then-not-on-sheet
-returns-then-not-on-sheet c =
+pub returns-then-not-on_sheet : goal.returns-then-not-on_sheet
+returns-then-not-on_sheet c =
     let t = c.args.self.now in
     record {
-      value = sym (inked_off t.side.pixels (take t.count t.strokes.now) c.args.pixel (sym c.if-not-on-sheet.ensures));
+      value = sym (inked_off t.side.pixels (take t.count t.strokes.now) c.args.pixel (sym c.if-not-on_sheet.ensures));
       off = λ out. refl;
     }
 
 pub loop-k-preserved : goal.loop-k-preserved
-loop-k-preserved c = (c.loop-k.invariant.0, none_more _ c.loop-k.k c.loop-k.invariant.1 (sym c.if-line-inks.ensures))
+loop-k-preserved c = (c.loop-k.invariant.0, none_more _ c.loop-k.k c.loop-k.invariant.1 (sym c.if-line_inks.ensures))
 
 pub loop-column-preserved : goal.loop-column-preserved
-loop-column-preserved c = (c.loop-column.invariant.0, none_more _ c.loop-column.column c.loop-column.invariant.1 (sym c.if-letter-inks.ensures))
+loop-column-preserved c = (c.loop-column.invariant.0, none_more _ c.loop-column.column c.loop-column.invariant.1 (sym c.if-letter_inks.ensures))
 
 pub loop-row-preserved : goal.loop-row-preserved
 loop-row-preserved c =
@@ -44,7 +44,7 @@ strokes-preserved c =
     elim c.match-kind.branch [
       | in-Dot+else-dot-inks w ↦ (
         w.found-is ∙ c.strokes.invariant.0,
-        inked_none n i ss no_stroke z h c.strokes.invariant.1 (dot_is n s z false w.in-Dot.is (sym w.if-dot-inks.ensures)),
+        inked_none n i ss no_stroke z h c.strokes.invariant.1 (dot_is n s z false w.in-Dot.is (sym w.if-dot_inks.ensures)),
       )
       | in-Line+else-loop-k-test w ↦ (
         w.found-is ∙ w.loop-k.invariant.0,
@@ -60,8 +60,8 @@ strokes-preserved c =
       )
     ]
 
-pub returns-then-dot-inks : goal.returns-then-dot-inks
-returns-then-dot-inks c =
+pub returns-then-dot_inks : goal.returns-then-dot_inks
+returns-then-dot_inks c =
     let t = c.args.self.now in
     let n = t.side.pixels in
     let ss = t.strokes.now in
@@ -69,11 +69,11 @@ returns-then-dot-inks c =
     let z = c.args.pixel in
     let s = get_or ss i no_stroke in
     let e : true ≡ inked_by n (take t.count ss) z = sym (inked_at_lem n i t.count ss no_stroke z c.strokes-test.true t.within
-    (covers_on n _ z (sym c.if-not-on-sheet.ensures) (dot_is n s z true c.in-Dot.is (sym c.if-dot-inks.ensures)))) in
+    (covers_on n _ z (sym c.if-not-on_sheet.ensures) (dot_is n s z true c.in-Dot.is (sym c.if-dot_inks.ensures)))) in
     record { value = e; off = λ out. e ∙ inked_off n (take t.count ss) z out }
 
-pub returns-then-line-inks : goal.returns-then-line-inks
-returns-then-line-inks c =
+pub returns-then-line_inks : goal.returns-then-line_inks
+returns-then-line_inks c =
     let t = c.args.self.now in
     let n = t.side.pixels in
     let ss = t.strokes.now in
@@ -82,13 +82,13 @@ returns-then-line-inks c =
     let s = get_or ss i no_stroke in
     let line = c.between-line.result in
     let e : true ≡ inked_by n (take t.count ss) z = sym (inked_at_lem n i t.count ss no_stroke z c.strokes-test.true t.within
-    (covers_on n _ z (sym c.if-not-on-sheet.ensures)
+    (covers_on n _ z (sym c.if-not-on_sheet.ensures)
     (line_reaches n s z line.from line.to c.loop-k.k c.in-Line.is c.between-line.ensures.from c.between-line.ensures.to
-    (omega (arith, c.loop-k-test.true, c.points-k-end.ensures)) (sym c.if-line-inks.ensures)))) in
+    (omega (arith, c.loop-k-test.true, c.points-k-end.ensures)) (sym c.if-line_inks.ensures)))) in
     record { value = e; off = λ out. e ∙ inked_off n (take t.count ss) z out }
 
-pub returns-then-letter-inks : goal.returns-then-letter-inks
-returns-then-letter-inks c =
+pub returns-then-letter_inks : goal.returns-then-letter_inks
+returns-then-letter_inks c =
     let t = c.args.self.now in
     let n = t.side.pixels in
     let ss = t.strokes.now in
@@ -96,6 +96,6 @@ returns-then-letter-inks c =
     let z = c.args.pixel in
     let s = get_or ss i no_stroke in
     let e : true ≡ inked_by n (take t.count ss) z = sym (inked_at_lem n i t.count ss no_stroke z c.strokes-test.true t.within
-    (covers_on n _ z (sym c.if-not-on-sheet.ensures)
-    (letter_reaches n s z c.loop-row.row c.loop-column.column c.in-Letter.is c.loop-row-test.true c.loop-column-test.true (sym c.if-letter-inks.ensures)))) in
+    (covers_on n _ z (sym c.if-not-on_sheet.ensures)
+    (letter_reaches n s z c.loop-row.row c.loop-column.column c.in-Letter.is c.loop-row-test.true c.loop-column-test.true (sym c.if-letter_inks.ensures)))) in
     record { value = e; off = λ out. e ∙ inked_off n (take t.count ss) z out }

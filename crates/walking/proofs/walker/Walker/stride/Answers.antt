@@ -3,20 +3,20 @@ use Rattle.statement.specs.Views.{said_by}
 use Rattle.walking.proofs.Steps.{told_within, told_size, told_on, refused_step, open_step, long_step}
 use Rattle.walking.proofs.walker.Walker.stride.Goals as goal
 
-pub overflow-add-after : goal.overflow-add-after
-overflow-add-after c =
+pub overflow_add-after : goal.overflow_add-after
+overflow_add-after c =
     let w = c.args.self in
     let s = said_by c.in-Whole.statement in
     let g = c.in-Whole.ensures.spelt in
-    let inside = told_within w.standing w.place w.bytes.now c.limit-of-limit.result (omega arith) (omega arith) (omega arith) s g.0 g.1 g.2 in
+    let inside = told_within w.standing w.place w.bytes.now c.limit_of-limit.result (omega arith) (omega arith) (omega arith) s g.0 g.1 g.2 in
     record { fits = omega arith }
 
-pub invariant-of-after : goal.invariant-of-after
-invariant-of-after c =
+pub invariant_of-after : goal.invariant_of-after
+invariant_of-after c =
     let w = c.args.self in
     let s = said_by c.in-Whole.statement in
     let g = c.in-Whole.ensures.spelt in
-    let inside = told_within w.standing w.place w.bytes.now c.limit-of-limit.result (omega arith) (omega arith) (omega arith) s g.0 g.1 g.2 in
+    let inside = told_within w.standing w.place w.bytes.now c.limit_of-limit.result (omega arith) (omega arith) (omega arith) s g.0 g.1 g.2 in
     (omega arith, (omega arith, tt))
 
 pub returns-in-Whole : goal.returns-in-Whole
@@ -26,9 +26,9 @@ returns-in-Whole c =
     let g = c.in-Whole.ensures.spelt in
     record {
       bytes = refl;
-      moved = (refl, c.after.ensures, told_size w.standing w.place w.bytes.now c.limit-of-limit.result (omega arith) (omega arith) (omega arith) s g.0 g.1 g.2 c.extent.result c.extent.ensures);
+      moved = (refl, c.after.ensures, told_size w.standing w.place w.bytes.now c.limit_of-limit.result (omega arith) (omega arith) (omega arith) s g.0 g.1 g.2 c.extent.result c.extent.ensures);
       step =
-          told_on w.standing w.place w.bytes.now c.limit-of-limit.result (omega arith) (omega arith) (omega arith) s g.0 g.1 g.2 c.after.result
+          told_on w.standing w.place w.bytes.now c.limit_of-limit.result (omega arith) (omega arith) (omega arith) s g.0 g.1 g.2 c.after.result
           c.extent.result c.after.ensures c.extent.ensures;
     }
 
@@ -38,7 +38,7 @@ returns-in-Refused c =
     record {
       bytes = refl;
       moved = (refl, refl);
-      step = refused_step w.standing w.place w.bytes.now c.limit-of-limit.result (omega arith) (omega arith) (omega arith) c.in-Refused.fault c.in-Refused.ensures.value;
+      step = refused_step w.standing w.place w.bytes.now c.limit_of-limit.result (omega arith) (omega arith) (omega arith) c.in-Refused.fault c.in-Refused.ensures.value;
     }
 
 pub returns-in-More : goal.returns-in-More
@@ -47,11 +47,11 @@ returns-in-More c =
     record {
       bytes = refl;
       moved = (refl, refl);
-      step = long_step w.standing w.place w.bytes.now c.limit-of-limit.result (omega arith) (omega arith) (omega arith) (omega arith) (omega arith) c.in-More.ensures.value;
+      step = long_step w.standing w.place w.bytes.now c.limit_of-limit.result (omega arith) (omega arith) (omega arith) (omega arith) (omega arith) c.in-More.ensures.value;
     }
 
 pub returns-in-More-2 : goal.returns-in-More-2
 returns-in-More-2 c =
     let w = c.args.self in
-    let step = open_step w.standing w.place w.bytes.now c.limit-of-limit.result (omega arith) (omega arith) (omega arith) (omega arith) c.in-More-2.ensures.value in
-    record { bytes = refl; moved = (refl, refl); step = λ ts. ((step ts).0, c.end-at.ensures ∙ (step ts).1) }
+    let step = open_step w.standing w.place w.bytes.now c.limit_of-limit.result (omega arith) (omega arith) (omega arith) (omega arith) c.in-More-2.ensures.value in
+    record { bytes = refl; moved = (refl, refl); step = λ ts. ((step ts).0, c.end_at.ensures ∙ (step ts).1) }

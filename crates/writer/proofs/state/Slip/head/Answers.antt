@@ -11,4 +11,4 @@ lay-requires c =
     let s = c.args.self.now in
     let h = heads (known s.names) s.used (length s.buffer.now) c.args.label.now c.args.header c.requires in
     let Free : Said → Type 0 = λ z. s.used + length (spell z) < length s.buffer.now in
-    record { lawful = subst Lawful (sym c.heading-of.ensures) h.lawful; free = subst Free (sym c.heading-of.ensures) h.free }
+    record { lawful = subst Lawful (sym c.heading_of.ensures) h.lawful; free = subst Free (sym c.heading_of.ensures) h.free }

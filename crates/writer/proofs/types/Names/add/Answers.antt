@@ -15,8 +15,8 @@ bounds-self-self c =
     let s = c.args.self.now in
     room_left s.each s.used c.args.name.now (omega arith) c.requires.room (sym c.if-has.ensures)
 
-pub invariant-of-self : goal.invariant-of-self
-invariant-of-self c =
+pub invariant_of-self : goal.invariant_of-self
+invariant_of-self c =
     let s = c.args.self.now in
     let r = room_left s.each s.used c.args.name.now (omega arith) c.requires.room (sym c.if-has.ensures) in
     let n = length-set s.each s.used c.of.result in
