@@ -24,8 +24,8 @@ fn perform<S: Sheet>(
     sheet: &mut S,
     statement: &Statement<'_>,
 ) -> Result<(), Failure>
-    ensures after { leaves result work.new (meaning sheet.new) ≡ perform_said (calls_left calls.now) (entries_of table.now) (open_of calls.now) offset (said_by statement.now) (ink_of work.old.pen (meaning sheet.old)) work.old.count }
-    ensures tied { tied sheet.new ≡ tied sheet.old }
+    ensures after { leaves result work.new (S.meaning sheet.new) ≡ perform_said (calls_left calls.now) (entries_of table.now) (open_of calls.now) offset (said_by statement.now) (ink_of work.old.pen (S.meaning sheet.old)) work.old.count }
+    ensures tied { S.tied sheet.new ≡ S.tied sheet.old }
 {
     let spot = Spot {
         calls: calls.used,
@@ -65,8 +65,8 @@ fn perform_body<S: Sheet>(
     sheet: &mut S,
     body: &[u8],
 ) -> Result<(), Failure>
-    ensures after { leaves result work.new (meaning sheet.new) ≡ play (performed (calls_left calls.now) (entries_of table.now) (open_of calls.now)) (length (open_of calls.now)) body.now 0 [] (ink_of work.old.pen (meaning sheet.old)) work.old.count }
-    ensures tied { tied sheet.new ≡ tied sheet.old }
+    ensures after { leaves result work.new (S.meaning sheet.new) ≡ play (performed (calls_left calls.now) (entries_of table.now) (open_of calls.now)) (length (open_of calls.now)) body.now 0 [] (ink_of work.old.pen (S.meaning sheet.old)) work.old.count }
+    ensures tied { S.tied sheet.new ≡ S.tied sheet.old }
 {
     let mut start = 0;
     for end in 0..body.len() {
@@ -96,8 +96,8 @@ pub fn perform_top<S: Sheet>(
     sheet: &mut S,
     statement: &Statement<'_>,
 ) -> Result<(), Failure>
-    ensures after { leaves result work.new (meaning sheet.new) ≡ perform_said 8 (entries_of table.now) [] 0 (said_by statement.now) (ink_of work.old.pen (meaning sheet.old)) work.old.count }
-    ensures tied { tied sheet.new ≡ tied sheet.old }
+    ensures after { leaves result work.new (S.meaning sheet.new) ≡ perform_said 8 (entries_of table.now) [] 0 (said_by statement.now) (ink_of work.old.pen (S.meaning sheet.old)) work.old.count }
+    ensures tied { S.tied sheet.new ≡ S.tied sheet.old }
 {
     perform(table, &OpenNames::none(), 0, work, sheet, statement)
 }

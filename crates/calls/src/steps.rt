@@ -81,9 +81,9 @@ pub fn perform_at<S: Sheet>(
     sheet: &mut S,
     statement: &Statement<'_>,
 ) -> Result<(), Failure>
-    ensures ink { ink_of pen.new (meaning sheet.new) ≡ (plain_effect (said_by statement.now) (ink_of pen.old (meaning sheet.old))).ink }
-    ensures refusal { option_map trouble_of (result_err result) ≡ trouble_at spot (plain_effect (said_by statement.now) (ink_of pen.old (meaning sheet.old))).refusal }
-    ensures tied { tied sheet.new ≡ tied sheet.old }
+    ensures ink { ink_of pen.new (S.meaning sheet.new) ≡ (plain_effect (said_by statement.now) (ink_of pen.old (S.meaning sheet.old))).ink }
+    ensures refusal { option_map trouble_of (result_err result) ≡ trouble_at spot (plain_effect (said_by statement.now) (ink_of pen.old (S.meaning sheet.old))).refusal }
+    ensures tied { S.tied sheet.new ≡ S.tied sheet.old }
 {
     match perform_plain(pen, sheet, statement) {
         Ok(()) => Ok(()),

@@ -22,9 +22,9 @@ fn play_stream<S: Sheet>(
     stream: &[u8],
     lengths: &[u8],
 ) -> Report
-    ensures after { config_of reader.new (meaning sheet.new) ≡ finish (run (config_of reader.old (meaning sheet.old)) stream.now) }
-    ensures report { result ≡ report_of (config_of reader.new (meaning sheet.new)) }
-    ensures tied { tied sheet.new ≡ tied sheet.old }
+    ensures after { config_of reader.new (S.meaning sheet.new) ≡ finish (run (config_of reader.old (S.meaning sheet.old)) stream.now) }
+    ensures report { result ≡ report_of (config_of reader.new (S.meaning sheet.new)) }
+    ensures tied { S.tied sheet.new ≡ S.tied sheet.old }
 {
     if lengths.is_empty() {
         return play_with(reader, sheet, &[Call::Feed(stream), Call::Finish]);

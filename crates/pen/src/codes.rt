@@ -19,8 +19,8 @@ pub fn set_letter<S: Sheet>(
     sheet: &mut S,
     code: u8,
 ) -> Result<(), Fault>
-    ensures after { (i : Ink) → drawn result (lit i beam.new intensity (meaning sheet.new)) ≡ set_letter code (lit i beam.old intensity (meaning sheet.old)) }
-    ensures tied { tied sheet.new ≡ tied sheet.old }
+    ensures after { (i : Ink) → drawn result (lit i beam.new intensity (S.meaning sheet.new)) ≡ set_letter code (lit i beam.old intensity (S.meaning sheet.old)) }
+    ensures tied { S.tied sheet.new ≡ S.tied sheet.old }
 {
     let Some(next) = beside(*beam, 450) else {
         return Err(Fault::OffField);
@@ -79,8 +79,8 @@ pub fn set_code<S: Sheet>(
     manner: Manner,
     code: u8,
 ) -> Result<(), Fault>
-    ensures after { (i : Ink) → drawn result (lit i beam.new intensity (meaning sheet.new)) ≡ set_code manner code (lit i beam.old intensity (meaning sheet.old)) }
-    ensures tied { tied sheet.new ≡ tied sheet.old }
+    ensures after { (i : Ink) → drawn result (lit i beam.new intensity (S.meaning sheet.new)) ≡ set_code manner code (lit i beam.old intensity (S.meaning sheet.old)) }
+    ensures tied { S.tied sheet.new ≡ S.tied sheet.old }
 {
     if !is_printed(code) {
         return obey_control(beam, code);

@@ -10,8 +10,8 @@ use sheet::Sheet;
 
 // Puts a mark; at intensity 0 none is put.
 pub fn put_mark<S: Sheet>(intensity: u8, sheet: &mut S, mark: Mark) -> Result<(), Fault>
-    ensures after { (i : Ink) (p : Point) → drawn result (lit i p intensity (meaning sheet.new)) ≡ put mark (lit i p intensity (meaning sheet.old)) }
-    ensures tied { tied sheet.new ≡ tied sheet.old }
+    ensures after { (i : Ink) (p : Point) → drawn result (lit i p intensity (S.meaning sheet.new)) ≡ put mark (lit i p intensity (S.meaning sheet.old)) }
+    ensures tied { S.tied sheet.new ≡ S.tied sheet.old }
 {
     if intensity == 0 {
         return Ok(());

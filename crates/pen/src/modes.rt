@@ -63,8 +63,8 @@ impl Pen {
 
 // Clears the sheet, and makes the pen as new.
 pub fn erase<S: Sheet>(pen: &mut Pen, sheet: &mut S)
-    ensures after { ink_of pen.new (meaning sheet.new) ≡ blank (ink_of pen.old (meaning sheet.old)) }
-    ensures tied { tied sheet.new ≡ tied sheet.old }
+    ensures after { ink_of pen.new (S.meaning sheet.new) ≡ blank (ink_of pen.old (S.meaning sheet.old)) }
+    ensures tied { S.tied sheet.new ≡ S.tied sheet.old }
 {
     sheet.clear();
     pen.reset();

@@ -19,8 +19,8 @@ pub fn leave_trace<S: Sheet>(
     trace: Trace,
     end: Point,
 ) -> Result<(), Fault>
-    ensures after { drawn_of result pen.now (meaning sheet.new) ≡ leave trace end (ink_of pen.now (meaning sheet.old)) }
-    ensures tied { tied sheet.new ≡ tied sheet.old }
+    ensures after { drawn_of result pen.now (S.meaning sheet.new) ≡ leave trace end (ink_of pen.now (S.meaning sheet.old)) }
+    ensures tied { S.tied sheet.new ≡ S.tied sheet.old }
 {
     match trace {
         Trace::Blank => Ok(()),
@@ -45,8 +45,8 @@ pub fn travel_to<S: Sheet>(
     x: i32,
     y: i32,
 ) -> Result<(), Fault>
-    ensures after { drawn_of result pen.new (meaning sheet.new) ≡ go trace (point x y) (ink_of pen.old (meaning sheet.old)) }
-    ensures tied { tied sheet.new ≡ tied sheet.old }
+    ensures after { drawn_of result pen.new (S.meaning sheet.new) ≡ go trace (point x y) (ink_of pen.old (S.meaning sheet.old)) }
+    ensures tied { S.tied sheet.new ≡ S.tied sheet.old }
 {
     let Some(end) = field_point(x, y) else {
         return Err(Fault::OffField);
@@ -63,8 +63,8 @@ pub fn travel_to_point<S: Sheet>(
     trace: Trace,
     end: Point,
 ) -> Result<(), Fault>
-    ensures after { drawn_of result pen.new (meaning sheet.new) ≡ go trace end (ink_of pen.old (meaning sheet.old)) }
-    ensures tied { tied sheet.new ≡ tied sheet.old }
+    ensures after { drawn_of result pen.new (S.meaning sheet.new) ≡ go trace end (ink_of pen.old (S.meaning sheet.old)) }
+    ensures tied { S.tied sheet.new ≡ S.tied sheet.old }
 {
     travel_to(pen, sheet, trace, i32::from(end.x), i32::from(end.y))
 }
@@ -78,8 +78,8 @@ pub fn travel<S: Sheet>(
     x: i16,
     y: i16,
 ) -> Result<(), Fault>
-    ensures after { drawn_of result pen.new (meaning sheet.new) ≡ go trace (target aim x y pen.old.beam) (ink_of pen.old (meaning sheet.old)) }
-    ensures tied { tied sheet.new ≡ tied sheet.old }
+    ensures after { drawn_of result pen.new (S.meaning sheet.new) ≡ go trace (target aim x y pen.old.beam) (ink_of pen.old (S.meaning sheet.old)) }
+    ensures tied { S.tied sheet.new ≡ S.tied sheet.old }
 {
     match aim {
         Aim::Absolute => travel_to_point(pen, sheet, trace, Point { x, y }),

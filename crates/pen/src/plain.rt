@@ -18,8 +18,8 @@ pub fn perform_plain<S: Sheet>(
     sheet: &mut S,
     statement: &Statement<'_>,
 ) -> Result<(), Fault>
-    ensures after { drawn_of result pen.new (meaning sheet.new) ≡ plain_effect (said_by statement.now) (ink_of pen.old (meaning sheet.old)) }
-    ensures tied { tied sheet.new ≡ tied sheet.old }
+    ensures after { drawn_of result pen.new (S.meaning sheet.new) ≡ plain_effect (said_by statement.now) (ink_of pen.old (S.meaning sheet.old)) }
+    ensures tied { S.tied sheet.new ≡ S.tied sheet.old }
 {
     match *statement {
         Statement::Movea(x, y) => travel(pen, sheet, Trace::Blank, Aim::Absolute, x, y),

@@ -50,8 +50,8 @@ pub fn push_beam(pen: &mut Pen) -> Result<(), Fault>
 
 // Takes the beam to the point that was marked last, or to the origin if there is none.
 pub fn travel_back<S: Sheet>(pen: &mut Pen, sheet: &mut S, trace: Trace) -> Result<(), Fault>
-    ensures after { drawn_of result pen.new (meaning sheet.new) ≡ recall trace (stacked pen.old.marks) (ink_of pen.old (meaning sheet.old)) }
-    ensures tied { tied sheet.new ≡ tied sheet.old }
+    ensures after { drawn_of result pen.new (S.meaning sheet.new) ≡ recall trace (stacked pen.old.marks) (ink_of pen.old (S.meaning sheet.old)) }
+    ensures tied { S.tied sheet.new ≡ S.tied sheet.old }
 {
     match pen.marks.pop() {
         Some(top) => travel_to_point(pen, sheet, trace, top),

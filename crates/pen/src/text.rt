@@ -20,8 +20,8 @@ pub fn set_codes<S: Sheet>(
     manner: Manner,
     codes: &[u8],
 ) -> Result<(), Fault>
-    ensures after { (i : Ink) → drawn result (lit i beam.new intensity (meaning sheet.new)) ≡ set_codes manner codes.now (lit i beam.old intensity (meaning sheet.old)) }
-    ensures tied { tied sheet.new ≡ tied sheet.old }
+    ensures after { (i : Ink) → drawn result (lit i beam.new intensity (S.meaning sheet.new)) ≡ set_codes manner codes.now (lit i beam.old intensity (S.meaning sheet.old)) }
+    ensures tied { S.tied sheet.new ≡ S.tied sheet.old }
 {
     for code in codes {
         set_code(beam, intensity, sheet, manner, *code)?;
@@ -52,8 +52,8 @@ pub fn set_and_return<S: Sheet>(
     sheet: &mut S,
     codes: &[u8],
 ) -> Result<(), Fault>
-    ensures after { (i : Ink) → drawn result (lit i beam.new intensity (meaning sheet.new)) ≡ restored beam.old (set_codes Restoring codes.now (lit i beam.old intensity (meaning sheet.old))) }
-    ensures tied { tied sheet.new ≡ tied sheet.old }
+    ensures after { (i : Ink) → drawn result (lit i beam.new intensity (S.meaning sheet.new)) ≡ restored beam.old (set_codes Restoring codes.now (lit i beam.old intensity (S.meaning sheet.old))) }
+    ensures tied { S.tied sheet.new ≡ S.tied sheet.old }
 {
     let saved = *beam;
     let guard = Restore { beam, saved };
@@ -68,8 +68,8 @@ pub fn set_text<S: Sheet>(
     manner: Manner,
     codes: &[u8],
 ) -> Result<(), Fault>
-    ensures after { drawn_of result pen.new (meaning sheet.new) ≡ set_text manner codes.now (ink_of pen.old (meaning sheet.old)) }
-    ensures tied { tied sheet.new ≡ tied sheet.old }
+    ensures after { drawn_of result pen.new (S.meaning sheet.new) ≡ set_text manner codes.now (ink_of pen.old (S.meaning sheet.old)) }
+    ensures tied { S.tied sheet.new ≡ S.tied sheet.old }
 {
     let intensity = pen.intensity;
     match manner {

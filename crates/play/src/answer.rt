@@ -13,18 +13,18 @@ use sheet::Sheet;
 
 // Feeds a piece.
 fn feed_piece<S: Sheet>(reader: &mut Reader, sheet: &mut S, piece: &[u8])
-    ensures after { config_of reader.new (meaning sheet.new) ≡ run (config_of reader.old (meaning sheet.old)) piece.now }
+    ensures after { config_of reader.new (S.meaning sheet.new) ≡ run (config_of reader.old (S.meaning sheet.old)) piece.now }
     ensures bytes { All (λ b. b < 256) piece.now }
-    ensures tied { tied sheet.new ≡ tied sheet.old }
+    ensures tied { S.tied sheet.new ≡ S.tied sheet.old }
 {
     let _ = reader.feed(sheet, piece);
 }
 
 // Answers one call.
 fn answer<S: Sheet>(reader: &mut Reader, sheet: &mut S, call: Call<'_>)
-    ensures after { config_of reader.new (meaning sheet.new) ≡ answering (config_of reader.old (meaning sheet.old)) (call_of call.entry) }
+    ensures after { config_of reader.new (S.meaning sheet.new) ≡ answering (config_of reader.old (S.meaning sheet.old)) (call_of call.entry) }
     ensures bytes { HasBytes (call_of call.entry) }
-    ensures tied { tied sheet.new ≡ tied sheet.old }
+    ensures tied { S.tied sheet.new ≡ S.tied sheet.old }
 {
     match call {
         Call::Feed(piece) => feed_piece(reader, sheet, piece),
@@ -39,9 +39,9 @@ fn answer<S: Sheet>(reader: &mut Reader, sheet: &mut S, call: Call<'_>)
 
 // Answers one call after the other; what the calls answer is let go.
 fn answer_all<S: Sheet>(reader: &mut Reader, sheet: &mut S, calls: &[Call<'_>])
-    ensures after { config_of reader.new (meaning sheet.new) ≡ fold answering (config_of reader.old (meaning sheet.old)) (calls_of calls.now) }
+    ensures after { config_of reader.new (S.meaning sheet.new) ≡ fold answering (config_of reader.old (S.meaning sheet.old)) (calls_of calls.now) }
     ensures bytes { All (λ b. b < 256) (stream_of calls.now) }
-    ensures tied { tied sheet.new ≡ tied sheet.old }
+    ensures tied { S.tied sheet.new ≡ S.tied sheet.old }
 {
     for call in calls {
         answer(reader, sheet, *call);
@@ -50,11 +50,11 @@ fn answer_all<S: Sheet>(reader: &mut Reader, sheet: &mut S, calls: &[Call<'_>])
 
 // Plays calls on a reader, one after the other, and reports how far it came.
 pub fn play_with<S: Sheet>(reader: &mut Reader, sheet: &mut S, calls: &[Call<'_>]) -> Report
-    ensures after { config_of reader.new (meaning sheet.new) ≡ fold answering (config_of reader.old (meaning sheet.old)) (calls_of calls.now) }
-    ensures report { result ≡ report_of (config_of reader.new (meaning sheet.new)) }
-    ensures played { New reader.old → Ends (comes_to (meaning sheet.old) calls.now) (meaning sheet.new) result }
+    ensures after { config_of reader.new (S.meaning sheet.new) ≡ fold answering (config_of reader.old (S.meaning sheet.old)) (calls_of calls.now) }
+    ensures report { result ≡ report_of (config_of reader.new (S.meaning sheet.new)) }
+    ensures played { New reader.old → Ends (comes_to (S.meaning sheet.old) calls.now) (S.meaning sheet.new) result }
     ensures bytes { All (λ b. b < 256) (stream_of calls.now) }
-    ensures tied { tied sheet.new ≡ tied sheet.old }
+    ensures tied { S.tied sheet.new ≡ S.tied sheet.old }
 {
     answer_all(reader, sheet, calls);
     reader.report()

@@ -19,9 +19,9 @@ pub fn play_both_with<A: Sheet, B: Sheet>(
     b: &mut B,
     other_calls: &[Call<'_>],
 ) -> (Report, Report)
-    ensures played { New first.old → New second.old → PlayedBoth (A.Sheet.meaning a.old) (B.Sheet.meaning b.old) its_calls.now other_calls.now (A.Sheet.meaning a.new) (B.Sheet.meaning b.new) result.0 result.1 }
-    ensures firstTied { A.Sheet.tied a.new ≡ A.Sheet.tied a.old }
-    ensures secondTied { B.Sheet.tied b.new ≡ B.Sheet.tied b.old }
+    ensures played { New first.old → New second.old → PlayedBoth (A.meaning a.old) (B.meaning b.old) its_calls.now other_calls.now (A.meaning a.new) (B.meaning b.new) result.0 result.1 }
+    ensures first_tied { A.tied a.new ≡ A.tied a.old }
+    ensures second_tied { B.tied b.new ≡ B.tied b.old }
 {
     let its_report = play_with(first, a, its_calls);
     let other_report = play_with(second, b, other_calls);
@@ -36,9 +36,9 @@ pub fn play_both<A: Sheet, B: Sheet>(
     b: &mut B,
     other_calls: &[Call<'_>],
 ) -> Result<(Report, Report), AllocError>
-    ensures played { MatchResult result (λ told. PlayedBoth (A.Sheet.meaning a.old) (B.Sheet.meaning b.old) its_calls.now other_calls.now (A.Sheet.meaning a.new) (B.Sheet.meaning b.new) told.0 told.1) (λ _. (A.Sheet.meaning a.new ≡ A.Sheet.meaning a.old) × (B.Sheet.meaning b.new ≡ B.Sheet.meaning b.old)) }
-    ensures firstTied { A.Sheet.tied a.new ≡ A.Sheet.tied a.old }
-    ensures secondTied { B.Sheet.tied b.new ≡ B.Sheet.tied b.old }
+    ensures played { MatchResult result (λ told. PlayedBoth (A.meaning a.old) (B.meaning b.old) its_calls.now other_calls.now (A.meaning a.new) (B.meaning b.new) told.0 told.1) (λ _. (A.meaning a.new ≡ A.meaning a.old) × (B.meaning b.new ≡ B.meaning b.old)) }
+    ensures first_tied { A.tied a.new ≡ A.tied a.old }
+    ensures second_tied { B.tied b.new ≡ B.tied b.old }
 {
     let mut first = Reader::new(heap)?;
     let mut second = Reader::new(heap)?;

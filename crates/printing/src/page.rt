@@ -9,7 +9,7 @@ use sheet::Sheet;
 
 // The byte of a pixel.
 fn pixel_byte<S: Sheet>(sheet: &S, row: u16, column: u16) -> u8
-    ensures { result ≡ pixel_text (meaning sheet.now) row column }
+    ensures { result ≡ pixel_text (S.meaning sheet.now) row column }
 {
     if sheet.inked((i32::from(column), i32::from(row))) {
         b'#'
@@ -20,8 +20,8 @@ fn pixel_byte<S: Sheet>(sheet: &S, row: u16, column: u16) -> u8
 
 // Writes a row from a place on.
 fn put_row<S: Sheet>(sheet: &S, row: u16, out: &mut [u8], at: usize)
-    requires { at + ((meaning sheet.now).side + 1) ≤ length out.old }
-    ensures { out.new ≡ sets out.old at (row_text (meaning sheet.now) row) }
+    requires { at + ((S.meaning sheet.now).side + 1) ≤ length out.old }
+    ensures { out.new ≡ sets out.old at (row_text (S.meaning sheet.now) row) }
 {
     let side = sheet.side().pixels();
     for column in 0..side {
@@ -32,8 +32,8 @@ fn put_row<S: Sheet>(sheet: &S, row: u16, out: &mut [u8], at: usize)
 
 // Writes the first rows of a page at the front of a buffer.
 fn put_rows<S: Sheet>(sheet: &S, count: u16, out: &mut [u8])
-    requires { length (rows_text (meaning sheet.now) count) ≤ length out.old }
-    ensures { out.new ≡ sets out.old 0 (rows_text (meaning sheet.now) count) }
+    requires { length (rows_text (S.meaning sheet.now) count) ≤ length out.old }
+    ensures { out.new ≡ sets out.old 0 (rows_text (S.meaning sheet.now) count) }
 {
     let width = sheet.side().pixels() as usize + 1;
     for row in 0..count {
@@ -52,8 +52,8 @@ pub(crate) fn page_room(side: Side) -> usize
 
 // Writes a page at the front of a buffer.
 pub(crate) fn put_page<S: Sheet>(sheet: &S, out: &mut [u8])
-    requires { length (page_text (meaning sheet.now)) ≤ length out.old }
-    ensures { out.new ≡ sets out.old 0 (page_text (meaning sheet.now)) }
+    requires { length (page_text (S.meaning sheet.now)) ≤ length out.old }
+    ensures { out.new ≡ sets out.old 0 (page_text (S.meaning sheet.now)) }
 {
     put_rows(sheet, sheet.side().pixels(), out);
 }

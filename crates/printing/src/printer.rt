@@ -87,8 +87,8 @@ pub fn room(side: Side, report: &Report) -> usize
 
 // Writes a page and its report at the front of a buffer.
 fn put_printed<S: Sheet>(sheet: &S, report: &Report, out: &mut [u8])
-    requires { length (printed (meaning sheet.now) report.now) ≤ length out.old }
-    ensures { out.new ≡ overlaid (printed (meaning sheet.now) report.now) out.old }
+    requires { length (printed (S.meaning sheet.now) report.now) ≤ length out.old }
+    ensures { out.new ≡ overlaid (printed (S.meaning sheet.now) report.now) out.old }
 {
     put_page(sheet, out);
     put_line(out, page_room(sheet.side()), &report_pieces(report));
@@ -96,8 +96,8 @@ fn put_printed<S: Sheet>(sheet: &S, report: &Report, out: &mut [u8])
 
 // Prints a page and its report at the front of a buffer, and tells how many bytes that took; with too little room it changes none.
 pub fn print<S: Sheet>(sheet: &S, report: &Report, out: &mut [u8]) -> Result<usize, TooShort>
-    ensures answer { result ≡ fitted (length (printed (meaning sheet.now) report.now)) (length out.old) }
-    ensures bytes { out.new ≡ overlaid (printed (meaning sheet.now) report.now) out.old }
+    ensures answer { result ≡ fitted (length (printed (S.meaning sheet.now) report.now)) (length out.old) }
+    ensures bytes { out.new ≡ overlaid (printed (S.meaning sheet.now) report.now) out.old }
 {
     let needed = room(sheet.side(), report);
     if out.len() < needed {

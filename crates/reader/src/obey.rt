@@ -33,8 +33,8 @@ impl State {
         statement: &Statement<'_>,
         at: usize,
     ) -> Result<(), Refusal>
-        ensures after { (h : List ℕ) → turn_of result self.new (meaning sheet.new) ≡ performed at (drawing_of Live h self.old (meaning sheet.old)) (perform_said 8 (entries_of self.old.table) [] 0 (said_by statement.now) (ink_of self.old.work.pen (meaning sheet.old)) self.old.work.count) }
-        ensures tied { tied sheet.new ≡ tied sheet.old }
+        ensures after { (h : List ℕ) → turn_of result self.new (S.meaning sheet.new) ≡ performed at (drawing_of Live h self.old (S.meaning sheet.old)) (perform_said 8 (entries_of self.old.table) [] 0 (said_by statement.now) (ink_of self.old.work.pen (S.meaning sheet.old)) self.old.work.count) }
+        ensures tied { S.tied sheet.new ≡ S.tied sheet.old }
     {
         match perform_top(&self.table, &mut self.work, sheet, statement) {
             Ok(()) => Ok(()),
@@ -56,8 +56,8 @@ impl State {
     ) -> Result<(), Refusal>
         requires named { NameFits (said_by statement) }
         requires counted { self.old.pictures < 2 ^ 32 }
-        ensures after { (h : List ℕ) → turn_of result self.new (meaning sheet.new) ≡ taken (stance_in self.old) (said_by statement.entry) bytes.now at (drawing_of Live h self.old (meaning sheet.old)) self.old.work.count }
-        ensures tied { tied sheet.new ≡ tied sheet.old }
+        ensures after { (h : List ℕ) → turn_of result self.new (S.meaning sheet.new) ≡ taken (stance_in self.old) (said_by statement.entry) bytes.now at (drawing_of Live h self.old (S.meaning sheet.old)) self.old.work.count }
+        ensures tied { S.tied sheet.new ≡ S.tied sheet.old }
     {
         match (self.standing, statement) {
             (Standing::Outside, Statement::Erase) => {

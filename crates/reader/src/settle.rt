@@ -25,9 +25,9 @@ impl State {
     // Takes the bytes of a statement so far: it waits for more, or obeys the statement.
     pub fn settle<S: Sheet>(&mut self, sheet: &mut S, bytes: &[u8], at: usize) -> Settled
         requires { self.old.pictures < 2 ^ 32 }
-        ensures after { (h : List ℕ) → settled_as result bytes.now self.new (meaning sheet.new) ≡ heeding bytes.now (reading self.old.standing bytes.now) at (drawing_of Live h self.old (meaning sheet.old)) self.old.work.count }
+        ensures after { (h : List ℕ) → settled_as result bytes.now self.new (S.meaning sheet.new) ≡ heeding bytes.now (reading self.old.standing bytes.now) at (drawing_of Live h self.old (S.meaning sheet.old)) self.old.work.count }
         ensures waits { Waiting result (is_more (reading self.new.standing bytes.now)) }
-        ensures tied { tied sheet.new ≡ tied sheet.old }
+        ensures tied { S.tied sheet.new ≡ S.tied sheet.old }
     {
         match read(self.standing, bytes) {
             Reading::More => Settled::More,
@@ -50,9 +50,9 @@ pub fn settle_held<S: Sheet>(
 ) -> Settled
     requires within { len ≤ 516 }
     requires counted { state.old.pictures < 2 ^ 32 }
-    ensures after { (h : List ℕ) → settled_as result (take len held.now) state.new (meaning sheet.new) ≡ heeding (take len held.now) (reading state.old.standing (take len held.now)) at (drawing_of Live h state.old (meaning sheet.old)) state.old.work.count }
+    ensures after { (h : List ℕ) → settled_as result (take len held.now) state.new (S.meaning sheet.new) ≡ heeding (take len held.now) (reading state.old.standing (take len held.now)) at (drawing_of Live h state.old (S.meaning sheet.old)) state.old.work.count }
     ensures waits { Waiting result (is_more (reading state.new.standing (take len held.now))) }
-    ensures tied { tied sheet.new ≡ tied sheet.old }
+    ensures tied { S.tied sheet.new ≡ S.tied sheet.old }
 {
     state.settle(sheet, &held[0..len], at)
 }

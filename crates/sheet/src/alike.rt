@@ -8,7 +8,7 @@ use mark::Mark;
 
 // Whether a sheet refuses the next mark.
 pub fn is_full<S: Sheet>(sheet: &S) -> bool
-    ensures { result ≡ not (is_ok (answer (meaning sheet.now))) }
+    ensures { result ≡ not (is_ok (answer (S.meaning sheet.now))) }
 {
     match sheet.stock() {
         Some(0) => true,
@@ -19,10 +19,10 @@ pub fn is_full<S: Sheet>(sheet: &S) -> bool
 
 // Puts one mark after another on a sheet, and says whether it took them all.
 pub fn draw<S: Sheet>(sheet: &mut S, marks: &[Mark]) -> bool
-    ensures answer { result ≡ takes_all (meaning sheet.old) marks.now }
-    ensures after { meaning sheet.new ≡ marked_all (meaning sheet.old) marks.now }
-    ensures side { (meaning sheet.new).side ≡ (meaning sheet.old).side }
-    ensures tied { tied sheet.new ≡ tied sheet.old }
+    ensures answer { result ≡ takes_all (S.meaning sheet.old) marks.now }
+    ensures after { S.meaning sheet.new ≡ marked_all (S.meaning sheet.old) marks.now }
+    ensures side { (S.meaning sheet.new).side ≡ (S.meaning sheet.old).side }
+    ensures tied { S.tied sheet.new ≡ S.tied sheet.old }
 {
     let mut taken = true;
     for mark in marks {
@@ -43,11 +43,11 @@ fn is_same(a: Result<(), Refusal>, b: Result<(), Refusal>) -> bool
 
 // Puts a mark on two sheets, and says whether they gave the same answer.
 pub fn mark_both<A: Sheet, B: Sheet>(a: &mut A, b: &mut B, mark: Mark) -> bool
-    ensures first { A.Sheet.meaning a.new ≡ marked (A.Sheet.meaning a.old) mark }
-    ensures second { B.Sheet.meaning b.new ≡ marked (B.Sheet.meaning b.old) mark }
-    ensures answers { result ≡ same_answer (answer (A.Sheet.meaning a.old)) (answer (B.Sheet.meaning b.old)) }
-    ensures firstTied { A.Sheet.tied a.new ≡ A.Sheet.tied a.old }
-    ensures secondTied { B.Sheet.tied b.new ≡ B.Sheet.tied b.old }
+    ensures first { A.meaning a.new ≡ marked (A.meaning a.old) mark }
+    ensures second { B.meaning b.new ≡ marked (B.meaning b.old) mark }
+    ensures answers { result ≡ same_answer (answer (A.meaning a.old)) (answer (B.meaning b.old)) }
+    ensures first_tied { A.tied a.new ≡ A.tied a.old }
+    ensures second_tied { B.tied b.new ≡ B.tied b.old }
 {
     let first = a.mark(mark);
     let second = b.mark(mark);
@@ -56,12 +56,12 @@ pub fn mark_both<A: Sheet, B: Sheet>(a: &mut A, b: &mut B, mark: Mark) -> bool
 
 // Puts one mark after another on two sheets, and says whether they gave the same answers; sheets that were alike stay so.
 pub fn draw_both<A: Sheet, B: Sheet>(a: &mut A, b: &mut B, marks: &[Mark]) -> bool
-    ensures first { A.Sheet.meaning a.new ≡ marked_all (A.Sheet.meaning a.old) marks.now }
-    ensures second { B.Sheet.meaning b.new ≡ marked_all (B.Sheet.meaning b.old) marks.now }
-    ensures answers { result ≡ same_answers (A.Sheet.meaning a.old) (B.Sheet.meaning b.old) marks.now }
-    ensures alike { Alike (A.Sheet.meaning a.old) (B.Sheet.meaning b.old) → Alike (A.Sheet.meaning a.new) (B.Sheet.meaning b.new) × (result ≡ true) }
-    ensures firstTied { A.Sheet.tied a.new ≡ A.Sheet.tied a.old }
-    ensures secondTied { B.Sheet.tied b.new ≡ B.Sheet.tied b.old }
+    ensures first { A.meaning a.new ≡ marked_all (A.meaning a.old) marks.now }
+    ensures second { B.meaning b.new ≡ marked_all (B.meaning b.old) marks.now }
+    ensures answers { result ≡ same_answers (A.meaning a.old) (B.meaning b.old) marks.now }
+    ensures alike { Alike (A.meaning a.old) (B.meaning b.old) → Alike (A.meaning a.new) (B.meaning b.new) × (result ≡ true) }
+    ensures first_tied { A.tied a.new ≡ A.tied a.old }
+    ensures second_tied { B.tied b.new ≡ B.tied b.old }
 {
     let mut same = true;
     for mark in marks {

@@ -46,9 +46,9 @@ fn frame(mode: LineMode, low: Point, high: Point) -> [Mark; 4]
 
 // A frame of each line mode, one about the other.
 fn draw_frames<S: Sheet>(sheet: &mut S) -> bool
-    ensures answer { result ≡ takes_all (meaning sheet.old) frames_of }
-    ensures after { meaning sheet.new ≡ marked_all (meaning sheet.old) frames_of }
-    ensures tied { tied sheet.new ≡ tied sheet.old }
+    ensures answer { result ≡ takes_all (S.meaning sheet.old) frames_of }
+    ensures after { S.meaning sheet.new ≡ marked_all (S.meaning sheet.old) frames_of }
+    ensures tied { S.tied sheet.new ≡ S.tied sheet.old }
 {
     let solid = frame(
         LineMode::Solid,
@@ -116,9 +116,9 @@ fn letter(k: u8) -> Mark
 
 // Every letter that the font has.
 fn draw_letters<S: Sheet>(sheet: &mut S) -> bool
-    ensures answer { result ≡ takes_all (meaning sheet.old) all_letters }
-    ensures after { meaning sheet.new ≡ marked_all (meaning sheet.old) all_letters }
-    ensures tied { tied sheet.new ≡ tied sheet.old }
+    ensures answer { result ≡ takes_all (S.meaning sheet.old) all_letters }
+    ensures after { S.meaning sheet.new ≡ marked_all (S.meaning sheet.old) all_letters }
+    ensures tied { S.tied sheet.new ≡ S.tied sheet.old }
 {
     let mut taken = true;
     for k in 0..95 {
@@ -129,9 +129,9 @@ fn draw_letters<S: Sheet>(sheet: &mut S) -> bool
 
 // Draws the specimen, and says whether the sheet took all of it.
 pub fn draw_specimen<S: Sheet>(sheet: &mut S) -> bool
-    ensures answer { result ≡ takes_all (meaning sheet.old) specimen_marks }
-    ensures after { meaning sheet.new ≡ marked_all (meaning sheet.old) specimen_marks }
-    ensures tied { tied sheet.new ≡ tied sheet.old }
+    ensures answer { result ≡ takes_all (S.meaning sheet.old) specimen_marks }
+    ensures after { S.meaning sheet.new ≡ marked_all (S.meaning sheet.old) specimen_marks }
+    ensures tied { S.tied sheet.new ≡ S.tied sheet.old }
 {
     let frames = draw_frames(sheet);
     let dots = draw(sheet, &dots());

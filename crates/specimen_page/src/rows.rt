@@ -5,13 +5,13 @@ ghost use Rattle.specimen_page.specs.Rows.{inked_in, bears_ink, shown_as, count_
 use sheet::Sheet;
 
 fn is_inked<S: Sheet>(sheet: &S, row: u16, column: u16) -> bool
-    ensures { result ≡ inked_in (meaning sheet.now) row column }
+    ensures { result ≡ inked_in (S.meaning sheet.now) row column }
 {
     sheet.inked((column as i32, row as i32))
 }
 
 fn bears_ink<S: Sheet>(sheet: &S, row: u16) -> bool
-    ensures { result ≡ bears_ink (meaning sheet.now) row }
+    ensures { result ≡ bears_ink (S.meaning sheet.now) row }
 {
     for column in 0..sheet.side().pixels() {
         if is_inked(sheet, row, column) {
@@ -23,9 +23,9 @@ fn bears_ink<S: Sheet>(sheet: &S, row: u16) -> bool
 
 // The first row that bears ink, or the side where none does.
 pub fn first_row<S: Sheet>(sheet: &S) -> u16
-    ensures within { result ≤ (meaning sheet.now).side }
-    ensures before { (k : ℕ) → k < result → bears_ink (meaning sheet.now) k ≡ false }
-    ensures inked { result < (meaning sheet.now).side → bears_ink (meaning sheet.now) result ≡ true }
+    ensures within { result ≤ (S.meaning sheet.now).side }
+    ensures before { (k : ℕ) → k < result → bears_ink (S.meaning sheet.now) k ≡ false }
+    ensures inked { result < (S.meaning sheet.now).side → bears_ink (S.meaning sheet.now) result ≡ true }
 {
     let end = sheet.side().pixels();
     for row in 0..end {
@@ -38,9 +38,9 @@ pub fn first_row<S: Sheet>(sheet: &S) -> u16
 
 // One more than the last row that bears ink, or 0 where none does.
 pub fn past_rows<S: Sheet>(sheet: &S) -> u16
-    ensures within { result ≤ (meaning sheet.now).side }
-    ensures after { (k : ℕ) → result ≤ k → k < (meaning sheet.now).side → bears_ink (meaning sheet.now) k ≡ false }
-    ensures inked { 0 < result → bears_ink (meaning sheet.now) (result - 1) ≡ true }
+    ensures within { result ≤ (S.meaning sheet.now).side }
+    ensures after { (k : ℕ) → result ≤ k → k < (S.meaning sheet.now).side → bears_ink (S.meaning sheet.now) k ≡ false }
+    ensures inked { 0 < result → bears_ink (S.meaning sheet.now) (result - 1) ≡ true }
 {
     let end = sheet.side().pixels();
     let mut row = end;
@@ -62,7 +62,7 @@ fn shown(inked: bool) -> u8
 
 // The first 512 pixels of a row as text.
 pub fn row_text<S: Sheet>(sheet: &S, row: u16) -> [u8; 512]
-    ensures { (k : ℕ) → k < 512 → slice_index result k ≡ shown_as (inked_in (meaning sheet.now) row k) }
+    ensures { (k : ℕ) → k < 512 → slice_index result k ≡ shown_as (inked_in (S.meaning sheet.now) row k) }
 {
     let mut text = [b'.'; 512];
     for column in 0..512u16 {
@@ -81,7 +81,7 @@ fn one(inked: bool) -> u16
 
 // How many pixels of a row are inked.
 fn inked_in_row<S: Sheet>(sheet: &S, row: u16) -> u16
-    ensures value { result ≡ count_below (inked_in (meaning sheet.now) row) (meaning sheet.now).side }
+    ensures value { result ≡ count_below (inked_in (S.meaning sheet.now) row) (S.meaning sheet.now).side }
     ensures small { result ≤ 2048 }
 {
     let mut count = 0;
@@ -93,7 +93,7 @@ fn inked_in_row<S: Sheet>(sheet: &S, row: u16) -> u16
 
 // How many pixels of the page are inked.
 pub fn inked_pixels<S: Sheet>(sheet: &S) -> u32
-    ensures { result ≡ inked_pixels (meaning sheet.now) }
+    ensures { result ≡ inked_pixels (S.meaning sheet.now) }
 {
     let mut count: u32 = 0;
     for row in 0..sheet.side().pixels() {

@@ -12,8 +12,8 @@ use sheet::Sheet;
 impl Reader {
     // Takes the bytes of a piece in turn.
     fn take_all<S: Sheet>(&mut self, sheet: &mut S, piece: &[u8])
-        ensures after { config_of self.new (meaning sheet.new) ≡ run (config_of self.old (meaning sheet.old)) piece.now }
-        ensures tied { tied sheet.new ≡ tied sheet.old }
+        ensures after { config_of self.new (S.meaning sheet.new) ≡ run (config_of self.old (S.meaning sheet.old)) piece.now }
+        ensures tied { S.tied sheet.new ≡ S.tied sheet.old }
     {
         for byte in piece {
             self.take(sheet, *byte);
@@ -33,9 +33,9 @@ impl Reader {
 
     // Feeds a piece of the stream; a closed or refused reader and its sheet stay as they are.
     pub fn feed<S: Sheet>(&mut self, sheet: &mut S, piece: &[u8]) -> Result<(), Refused>
-        ensures after { config_of self.new (meaning sheet.new) ≡ run (config_of self.old (meaning sheet.old)) piece.now }
-        ensures answer { result ≡ feed_answer (config_of self.new (meaning sheet.new)).drawing.life }
-        ensures tied { tied sheet.new ≡ tied sheet.old }
+        ensures after { config_of self.new (S.meaning sheet.new) ≡ run (config_of self.old (S.meaning sheet.old)) piece.now }
+        ensures answer { result ≡ feed_answer (config_of self.new (S.meaning sheet.new)).drawing.life }
+        ensures tied { S.tied sheet.new ≡ S.tied sheet.old }
     {
         self.take_all(sheet, piece);
         self.feed_answer()

@@ -13,8 +13,8 @@ use statement::types::Fault as Unread;
 impl Reader {
     // Takes one byte.
     pub(super) fn take<S: Sheet>(&mut self, sheet: &mut S, byte: u8)
-        ensures after { config_of self.new (meaning sheet.new) ≡ step (config_of self.old (meaning sheet.old)) byte }
-        ensures tied { tied sheet.new ≡ tied sheet.old }
+        ensures after { config_of self.new (S.meaning sheet.new) ≡ step (config_of self.old (S.meaning sheet.old)) byte }
+        ensures tied { S.tied sheet.new ≡ S.tied sheet.old }
     {
         let Life::Live = self.life else {
             return;

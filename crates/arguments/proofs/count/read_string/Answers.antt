@@ -13,6 +13,6 @@ returns c =
       value = string_found n bytes rest _ _ counted split.front split.back c.args.limit c.if-n-limit.false c.if-rest-n.false;
       place = (
         omega (arith, (count_leaves n bytes rest counted).few),
-        λ ws e. string_lies n bytes rest _ _ counted split.front split.back c.args.at ws split.front-len e,
+        λ ws e. string_lies n bytes rest _ _ counted split.front split.back c.args.at ws split.front_len e,
       );
     }

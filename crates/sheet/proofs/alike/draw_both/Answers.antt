@@ -13,8 +13,8 @@ loop-mark-preserved g c =
       marked_more ms i _ _ _ _ h e.first c.loop-mark.invariant.0,
       marked_more ms i _ _ _ _ h e.second c.loop-mark.invariant.1,
       answers_more ms i _ _ _ _ _ c.loop-mark.same _ _ h e.first e.second e.answers c.loop-mark.invariant.2,
-      e.firstTied ∙ c.loop-mark.invariant.3,
-      e.secondTied ∙ c.loop-mark.invariant.4,
+      e.first_tied ∙ c.loop-mark.invariant.3,
+      e.second_tied ∙ c.loop-mark.invariant.4,
     )
 
 pub returns : goal.returns
@@ -36,6 +36,6 @@ returns g c =
             (subst (λ (y : Meaning). Alike (marked_all a ms) y) (sym second) (alike_marked a b ms t)),
         answers ∙ alike_answers a b ms t,
       );
-      firstTied = c.loop-mark.invariant.3;
-      secondTied = c.loop-mark.invariant.4;
+      first_tied = c.loop-mark.invariant.3;
+      second_tied = c.loop-mark.invariant.4;
     }

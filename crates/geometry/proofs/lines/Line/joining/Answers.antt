@@ -16,4 +16,4 @@ invariant_of-result c =
     let y = apart p.1 q.1 c.abs_diff-2.result (search rules) (search rules) c.abs_diff-2.ensures in
     let counted : c.max-steps.result ≡ steps_of p q = c.max-steps.ensures ∙ (λ i. max (x i) (y i)) in
     let few : c.max-steps.result ≤ 16384 = omega (arith, counted, size_apart p.0 q.0 c.requires.0.0 c.requires.1.0, size_apart p.1 q.1 c.requires.0.1 c.requires.1.1) in
-    ((c.requires.0, c.requires.1), (counted, (few, tt)))
+    record { near = (c.requires.0, c.requires.1); counted = counted; few = few }
