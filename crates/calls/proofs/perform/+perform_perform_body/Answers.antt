@@ -10,7 +10,7 @@ use Rattle.calls.proofs.Entering.{open_count, misplaced, too_many, does_plain, n
 use Rattle.calls.proofs.Stores.{not_found, found_entry}
 use Rattle.calls.proofs.Walking.{wants_more, refuses, goes_on, breaks_off, ends, same_turn}
 use Rattle.calls.proofs.perform.+perform_perform_body.Goals as goal
-use Rattle.calls.proofs.perform.+perform_perform_body.Goals.{perform_body-in-More, perform-body-in-Whole+in-ok-perform}
+use Rattle.calls.proofs.perform.+perform_perform_body.Goals.{perform_body-in-More, perform_body-in-Whole+in_ok-perform}
 
 pub perform-returns-then-not-is_act : goal.perform-returns-then-not-is_act
 perform-returns-then-not-is_act g t c =
@@ -91,7 +91,7 @@ perform_body-returns-in_err-perform g t c =
     let m : g.row.S.Denot → Meaning = g.S.Sheet.meaning in
     let o = c.args.calls.now in
     let i = ink_of c.loop-end.work.pen (m c.loop-end.sheet) in
-    let p = err_from_is_err_and c.from-residual.result c.from-residual.ensures.1 in
+    let p = err_from_is_err_and c.from_residual.result c.from_residual.ensures.1 in
     let e = c.in_err-perform.ensures in
     rw (p.1, p.2) (record {
       after = sym (c.loop-end.invariant.1 ∙ breaks_off (8 - o.used) (entries_of c.args.table.now) (open_of o) c.args.body.now c.loop-end.start c.loop-end.end i c.loop-end.work.count c.loop-end.invariant.0 c.loop-end-test.true (said_by c.in-Whole.statement) c.in-Whole.ensures.value e.after);
@@ -118,7 +118,7 @@ perform_body-loop-end-preserved g t c =
             same_turn d T (open_of o) b n start now.start c.loop-end.work now.work (m c.loop-end.sheet) (m now.sheet) w.start-is w.work-is (ap m w.sheet-is) (c.loop-end.invariant.1 ∙ e),
             ap g.S.Sheet.tied w.sheet-is ∙ c.loop-end.invariant.2,
           )
-      | perform-body-in-Whole+in-ok-perform w ↦
+      | perform_body-in-Whole+in_ok-perform w ↦
           let p = w.in_ok-perform.ensures in
           let last = w.perform.new in
           let e = goes_on d T (open_of o) b start end i k c.loop-end.invariant.0 c.loop-end-test.true (said_by w.in-Whole.statement) (ink_of last.work.pen (m last.sheet)) last.work.count w.in-Whole.ensures.value p.after in (

@@ -3,7 +3,7 @@ use Rattle.std.proofs.lemmas.List.{at_drop_more, take_all}
 use Rattle.composing.specs.Lines.{is_fill, bare}
 use Rattle.composing.proofs.Cuts.{bare_here}
 use Rattle.composing.proofs.hearing.bare.Goals as goal
-use Rattle.composing.proofs.hearing.bare.Goals.{then-loop-start-test+else-is-fill, else-loop-start-test}
+use Rattle.composing.proofs.hearing.bare.Goals.{then-loop-start-test+else-is_fill, else-loop-start-test}
 
 pub loop-start-preserved : goal.loop-start-preserved
 loop-start-preserved c =
@@ -17,6 +17,6 @@ returns c =
     let l = c.args.line.now in
     let i = c.loop-start.start in
     let at-end : i < length l → is_fill (get_or l i 0) ≡ false
-    = elim c.loop-start-test.branch [ then-loop-start-test+else-is-fill w ↦ λ h. sym w.if-is_fill.ensures | else-loop-start-test w ↦ λ h. absurd (omega (arith, w.loop-start-test.false)) ] in
+    = elim c.loop-start-test.branch [ then-loop-start-test+else-is_fill w ↦ λ h. sym w.if-is_fill.ensures | else-loop-start-test w ↦ λ h. absurd (omega (arith, w.loop-start-test.false)) ] in
     let few : length (drop i l) ≤ length l - i = simp length-drop (omega arith) in
     record { value = take_all (length l - i) (drop i l) few ∙ sym (bare_here l i at-end) ∙ c.loop-start.invariant.1; shorter = simp (length-take, length-drop) (omega arith) }

@@ -12,7 +12,7 @@ returns-then-not-is_printed g c =
 
 pub returns-in_err-break_line : goal.returns-in_err-break_line
 returns-in_err-break_line g c =
-    let p = err_from_is_err_and c.from-residual.result c.from-residual.ensures.1 in
+    let p = err_from_is_err_and c.from_residual.result c.from_residual.ensures.1 in
     let a = λ (i : Ink). lit i c.args.beam.now c.args.intensity (g.S.Sheet.meaning c.args.sheet.now) in
     rw (p.1, p.2) (record { after = λ i. stops c.args.manner c.args.code (a i) (sym c.is_printed.ensures ∙ c.if-not-is_printed.false) (c.in_err-break_line.ensures (a i)); tied = refl })
 

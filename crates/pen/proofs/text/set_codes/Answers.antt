@@ -7,7 +7,7 @@ use Rattle.pen.proofs.text.set_codes.Goals as goal
 
 pub returns-in_err-set_code : goal.returns-in_err-set_code
 returns-in_err-set_code g c =
-    let p = err_from_is_err_and c.from-residual.result c.from-residual.ensures.1 in
+    let p = err_from_is_err_and c.from_residual.result c.from_residual.ensures.1 in
     let a = λ (i : Ink). lit i c.loop-code.beam c.args.intensity (g.S.Sheet.meaning c.loop-code.sheet) in
     rw (p.1, p.2) (record {
       after = λ i. sym (c.loop-code.invariant.0 i ∙ breaks_off c.args.manner c.args.codes.now c.loop-code.code-index (a i) c.loop-code-test.true (c.in_err-set_code.ensures.after i));

@@ -19,7 +19,7 @@ loop-k-preserved c =
     elim c.if-inks.branch [
       | then-inks w ↦ (
         ap (λ x. x.side.pixels) w.sheet-is ∙ w.put.ensures.side ∙ c.loop-k.invariant.0,
-        ap (λ x. x.bytes.name) w.sheet-is ∙ w.put.ensures.named ∙ c.loop-k.invariant.1,
+        ap (λ x. x.bytes.ghost_name) w.sheet-is ∙ w.put.ensures.named ∙ c.loop-k.invariant.1,
         λ z.
             ap (λ x. inked_at n x.bytes.now z) w.sheet-is
             ∙ part_more n (line_inks_at p q mode) t.bytes.now k s.side.pixels s.bytes.now _ (same_pixel w.point.result) c.loop-k.invariant.0
@@ -27,7 +27,7 @@ loop-k-preserved c =
       )
       | else-inks w ↦ (
         ap (λ x. x.side.pixels) w.sheet-is ∙ c.loop-k.invariant.0,
-        ap (λ x. x.bytes.name) w.sheet-is ∙ c.loop-k.invariant.1,
+        ap (λ x. x.bytes.ghost_name) w.sheet-is ∙ c.loop-k.invariant.1,
         λ z.
             ap (λ x. inked_at n x.bytes.now z) w.sheet-is
             ∙ part_passed n (line_inks_at p q mode) t.bytes.now k s.bytes.now

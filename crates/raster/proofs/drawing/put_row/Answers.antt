@@ -18,7 +18,7 @@ loop-column-preserved c =
     elim c.if-has_dot.branch [
       | then-has_dot w ↦ (
         ap (λ x. x.side.pixels) w.sheet-is ∙ w.put.ensures.side ∙ c.loop-column.invariant.0,
-        ap (λ x. x.bytes.name) w.sheet-is ∙ w.put.ensures.named ∙ c.loop-column.invariant.1,
+        ap (λ x. x.bytes.ghost_name) w.sheet-is ∙ w.put.ensures.named ∙ c.loop-column.invariant.1,
         λ z.
             ap (λ x. inked_at n x.bytes.now z) w.sheet-is
             ∙ part_more n (λ v. letter_inks_at n at code v row) t.bytes.now k s.side.pixels s.bytes.now _ (same_pixel w.letter_dot.result) c.loop-column.invariant.0
@@ -26,7 +26,7 @@ loop-column-preserved c =
       )
       | else-has_dot w ↦ (
         ap (λ x. x.side.pixels) w.sheet-is ∙ c.loop-column.invariant.0,
-        ap (λ x. x.bytes.name) w.sheet-is ∙ c.loop-column.invariant.1,
+        ap (λ x. x.bytes.ghost_name) w.sheet-is ∙ c.loop-column.invariant.1,
         λ z.
             ap (λ x. inked_at n x.bytes.now z) w.sheet-is
             ∙ part_passed n (λ v. letter_inks_at n at code v row) t.bytes.now k s.bytes.now

@@ -11,7 +11,7 @@ pub invariant_of-result : goal.invariant_of-result
 invariant_of-result c =
     let bytes = c.fill.new.self in
     let whole = c.fill.ensures.len ∙ c.requires in
-    (whole, (zeros_clean c.args.side.pixels bytes (zeros bytes _ (c.fill.ensures.after (λ y e. e)) c.fill.ensures.len) whole, tt))
+    record { whole = whole; spare = zeros_clean c.args.side.pixels bytes (zeros bytes _ (c.fill.ensures.after (λ y e. e)) c.fill.ensures.len) whole }
 
 pub returns : goal.returns
 returns c =

@@ -23,10 +23,11 @@ invariant_of-self c =
     let n = t.side.pixels in
     let z = c.args.pixel in
     let is = written n c.place-at.result c.with_bit.result t.bytes.now z (search rules) c.place-at.ensures.value c.with_bit.ensures in
-    let on = on_within n z (sym c.if-not-on_sheet.ensures) in (
-      length-set _ _ _ ∙ t.whole,
-      (subst (λ (b : List ℕ). Clean n b) (sym is) (clean_set n t.bytes.now (nat_abs z.0) (nat_abs z.1) on.0.0 on.1.0 t.whole t.spare), tt),
-    )
+    let on = on_within n z (sym c.if-not-on_sheet.ensures) in
+    record {
+      whole = length-set _ _ _ ∙ t.whole;
+      spare = subst (λ (b : List ℕ). Clean n b) (sym is) (clean_set n t.bytes.now (nat_abs z.0) (nat_abs z.1) on.0.0 on.1.0 t.whole t.spare);
+    }
 
 pub returns : goal.returns
 returns c =

@@ -12,7 +12,7 @@ pub invariant_of-self : goal.invariant_of-self
 invariant_of-self c =
     let t = c.loop-i.self in
     let len = level _ _ _ _ t.whole c.args.self.now.whole c.loop-i.invariant.0 in
-    (length-set t.bytes.now c.loop-i.i 0 ∙ t.whole, (clean_zero t.side.pixels c.loop-i.i t.bytes.now (omega (arith, len)) t.spare, tt))
+    record { whole = length-set t.bytes.now c.loop-i.i 0 ∙ t.whole; spare = clean_zero t.side.pixels c.loop-i.i t.bytes.now (omega (arith, len)) t.spare }
 
 pub loop-i-preserved : goal.loop-i-preserved
 loop-i-preserved c =

@@ -6,7 +6,7 @@ use Rattle.strokes.specs.Tables.{inked_by}
 use Rattle.strokes.proofs.Inking.{inked_off, inked_none, inked_at_lem, covers_on}
 use Rattle.strokes.proofs.Reaching.{dot_is, line_reaches, line_misses, letter_reaches, letter_misses}
 use Rattle.strokes.proofs.table.StrokeTableSheet.inked.Goals as goal
-use Rattle.strokes.proofs.table.StrokeTableSheet.inked.Goals.{in-Dot+else-dot-inks, in-Line+else-loop-k-test, in-Letter+else-loop-row-test}
+use Rattle.strokes.proofs.table.StrokeTableSheet.inked.Goals.{in-Dot+else-dot_inks, in-Line+else-loop-k-test, in-Letter+else-loop-row-test}
 
 pub returns-then-not-on_sheet : goal.returns-then-not-on_sheet
 returns-then-not-on_sheet c =
@@ -42,7 +42,7 @@ strokes-preserved c =
     let s = get_or ss i no_stroke in
     let h : i < length ss = omega (arith, t.within) in
     elim c.match-kind.branch [
-      | in-Dot+else-dot-inks w ↦ (
+      | in-Dot+else-dot_inks w ↦ (
         w.found-is ∙ c.strokes.invariant.0,
         inked_none n i ss no_stroke z h c.strokes.invariant.1 (dot_is n s z false w.in-Dot.is (sym w.if-dot_inks.ensures)),
       )

@@ -20,7 +20,7 @@ invariant_of-self c =
     let s = c.args.self.now in
     let r = room_left s.each s.used c.args.name.now (omega arith) c.requires.room (sym c.if-has.ensures) in
     let n = length-set s.each s.used c.of.result in
-    (omega arith, (omega arith, tt))
+    record { few = omega arith; all = omega arith }
 
 pub returns : goal.returns
 returns c =
