@@ -20,26 +20,38 @@ pub invariant_of-self-in-More : goal.invariant_of-self-in-More
 invariant_of-self-in-More g c =
     let r = c.args.self.now in
     let l : length r.held ≡ 516 = search rules in
-    let s = c.in-More.ensures in (
-      still_within r c.args.byte l,
-      (s.waits, (omega (arith, r.placed), (omega (arith, c.if-self-ge16777216.false), (one_picture r (g.S.Sheet.meaning c.args.sheet.now) c.args.byte came.More c.settle_held.new.state (g.S.Sheet.meaning c.settle_held.new.sheet) (s.after (take r.len r.held)), tt)))),
-    )
+    let s = c.in-More.ensures in
+    record {
+      within = still_within r c.args.byte l;
+      begun = s.waits;
+      placed = omega (arith, r.placed);
+      limited = omega (arith, c.if-self-ge16777216.false);
+      ended = one_picture r (g.S.Sheet.meaning c.args.sheet.now) c.args.byte came.More c.settle_held.new.state (g.S.Sheet.meaning c.settle_held.new.sheet) (s.after (take r.len r.held));
+    }
 
 pub invariant_of-self-in-Done : goal.invariant_of-self-in-Done
 invariant_of-self-in-Done g c =
     let r = c.args.self.now in
-    let s = c.in-Done.ensures in (
-      omega arith,
-      (refl, (omega arith, (omega (arith, c.if-self-ge16777216.false), (one_picture r (g.S.Sheet.meaning c.args.sheet.now) c.args.byte came.Done c.settle_held.new.state (g.S.Sheet.meaning c.settle_held.new.sheet) (s.after (take r.len r.held)), tt)))),
-    )
+    let s = c.in-Done.ensures in
+    record {
+      within = omega arith;
+      begun = refl;
+      placed = omega arith;
+      limited = omega (arith, c.if-self-ge16777216.false);
+      ended = one_picture r (g.S.Sheet.meaning c.args.sheet.now) c.args.byte came.Done c.settle_held.new.state (g.S.Sheet.meaning c.settle_held.new.sheet) (s.after (take r.len r.held));
+    }
 
 pub invariant_of-self-in-Refused : goal.invariant_of-self-in-Refused
 invariant_of-self-in-Refused g c =
     let r = c.args.self.now in
-    let s = c.in-Refused.ensures in (
-      omega arith,
-      (refl, (omega arith, (omega (arith, c.if-self-ge16777216.false), (one_picture r (g.S.Sheet.meaning c.args.sheet.now) c.args.byte (came.Refused c.in-Refused.refusal) c.settle_held.new.state (g.S.Sheet.meaning c.settle_held.new.sheet) (s.after (take r.len r.held)), tt)))),
-    )
+    let s = c.in-Refused.ensures in
+    record {
+      within = omega arith;
+      begun = refl;
+      placed = omega arith;
+      limited = omega (arith, c.if-self-ge16777216.false);
+      ended = one_picture r (g.S.Sheet.meaning c.args.sheet.now) c.args.byte (came.Refused c.in-Refused.refusal) c.settle_held.new.state (g.S.Sheet.meaning c.settle_held.new.sheet) (s.after (take r.len r.held));
+    }
 
 pub returns-in-More : goal.returns-in-More
 returns-in-More g c =

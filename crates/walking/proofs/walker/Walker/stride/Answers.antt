@@ -17,7 +17,7 @@ invariant_of-after c =
     let s = said_by c.in-Whole.statement in
     let g = c.in-Whole.ensures.spelt in
     let inside = told_within w.standing w.place w.bytes.now c.limit_of-limit.result (omega arith) (omega arith) (omega arith) s g.0 g.1 g.2 in
-    (omega arith, (omega arith, tt))
+    record { within = omega arith; few = omega arith }
 
 pub returns-in-Whole : goal.returns-in-Whole
 returns-in-Whole c =
