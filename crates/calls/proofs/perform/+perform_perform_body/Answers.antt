@@ -10,7 +10,7 @@ use Rattle.calls.proofs.Entering.{open_count, misplaced, too_many, does_plain, n
 use Rattle.calls.proofs.Stores.{not_found, found_entry}
 use Rattle.calls.proofs.Walking.{wants_more, refuses, goes_on, breaks_off, ends, same_turn}
 use Rattle.calls.proofs.perform.+perform_perform_body.Goals as goal
-use Rattle.calls.proofs.perform.+perform_perform_body.Goals.{perform_body-in-More, perform_body-in-Whole+in_ok-perform}
+use Rattle.calls.proofs.perform.+perform_perform_body.Goals.{perform_body-in-More, perform_body-in-Whole+in_ok-perform-in-Whole}
 
 pub perform-returns-then-not-is_act : goal.perform-returns-then-not-is_act
 perform-returns-then-not-is_act g t c =
@@ -86,13 +86,13 @@ perform_body-returns-in-Refused g t c =
       tied = c.loop-end.invariant.2;
     }
 
-pub perform_body-returns-in_err-perform : goal.perform_body-returns-in_err-perform
-perform_body-returns-in_err-perform g t c =
+pub perform_body-returns-in_err-perform-in-Whole : goal.perform_body-returns-in_err-perform-in-Whole
+perform_body-returns-in_err-perform-in-Whole g t c =
     let m : g.row.S.Denot → Meaning = g.S.Sheet.meaning in
     let o = c.args.calls.now in
     let i = ink_of c.loop-end.work.pen (m c.loop-end.sheet) in
     let p = err_from_is_err_and c.from_residual.result c.from_residual.ensures.1 in
-    let e = c.in_err-perform.ensures in
+    let e = c.in_err-perform-in-Whole.ensures in
     rw (p.1, p.2) (record {
       after = sym (c.loop-end.invariant.1 ∙ breaks_off (8 - o.used) (entries_of c.args.table.now) (open_of o) c.args.body.now c.loop-end.start c.loop-end.end i c.loop-end.work.count c.loop-end.invariant.0 c.loop-end-test.true (said_by c.in-Whole.statement) c.in-Whole.ensures.value e.after);
       tied = e.tied ∙ c.loop-end.invariant.2;
@@ -118,8 +118,8 @@ perform_body-loop-end-preserved g t c =
             same_turn d T (open_of o) b n start now.start c.loop-end.work now.work (m c.loop-end.sheet) (m now.sheet) w.start-is w.work-is (ap m w.sheet-is) (c.loop-end.invariant.1 ∙ e),
             ap g.S.Sheet.tied w.sheet-is ∙ c.loop-end.invariant.2,
           )
-      | perform_body-in-Whole+in_ok-perform w ↦
-          let p = w.in_ok-perform.ensures in
+      | perform_body-in-Whole+in_ok-perform-in-Whole w ↦
+          let p = w.in_ok-perform-in-Whole.ensures in
           let last = w.perform.new in
           let e = goes_on d T (open_of o) b start end i k c.loop-end.invariant.0 c.loop-end-test.true (said_by w.in-Whole.statement) (ink_of last.work.pen (m last.sheet)) last.work.count w.in-Whole.ensures.value p.after in (
             omega (arith, w.start-is),
