@@ -1,4 +1,6 @@
 // The arguments of statements, read from their bytes.
+#![tactic(auto)]
+
 pub mod count;
 pub mod pair;
 pub mod plain;

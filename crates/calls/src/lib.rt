@@ -1,4 +1,6 @@
 // Calls: the table of definitions, and performing statements with their calls.
+#![tactic(auto)]
+
 mod definition;
 mod names;
 mod nesting;

@@ -1,4 +1,6 @@
 // Reads a description of a stream from standard input, and writes the stream, or a line that tells why there is none.
+#![tactic(auto)]
+
 use composing::compose::compose;
 use composing::report::report;
 use std::io::{Read, Write};

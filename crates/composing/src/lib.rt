@@ -1,4 +1,6 @@
 // Streams made from their descriptions in words.
+#![tactic(auto)]
+
 mod advance;
 pub mod compose;
 mod filling;

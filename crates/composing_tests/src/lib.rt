@@ -1,4 +1,6 @@
 // Tests of descriptions, from their text to the page.
+#![tactic(auto)]
+
 #[cfg(test)]
 mod failures;
 #[cfg(test)]

@@ -3,7 +3,7 @@ use Rattle.std.proofs.Common.{◌≡◌, ℕ, suc, ◌+◌, ◌≤◌, true, Lis
 use lib.Seq.{sets, sets-eq}
 use Rattle.std.proofs.lemmas.List.{take_at}
 use Rattle.statement.specs.declared.types.Standing.{Standing}
-use Rattle.statement.specs.Statements.{CallTail, coded, Said, allowed}
+use Rattle.statement.specs.Statements.{coded, Said, allowed}
 use Rattle.spelling.specs.Spelling.{code_of, spell_as, spell_at, tail_byte, spell_tail, spell_arguments, spell, Lawful}
 use Rattle.spelling.specs.Laws.{Reads}
 use Rattle.spelling.specs.Answers.{over_front}

@@ -1,4 +1,6 @@
 // Statements spelt into a buffer.
+#![tactic(auto)]
+
 mod put;
 pub mod spell;
 mod tail;

@@ -1,4 +1,6 @@
 // The reader for callers of plain Rust or C: jobs and pages drawn in one call, however the stream is cut.
+#![tactic(auto)]
+
 mod answers;
 mod job_call;
 mod page_call;

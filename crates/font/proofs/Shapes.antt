@@ -1,5 +1,5 @@
 -- The lettering keeps its rules: tests over the whole table, which are computed.
-use Rattle.std.proofs.Common.{◌≡◌, ℕ, ◌+◌, ◌-◌, ◌*◌, ◌<◌, ◌≤◌, Bool, true, not, eqb, ltb, leb, ◌⊎◌, get_or, sym, refl, ◌∙◌, inl, inr, arith}
+use Rattle.std.proofs.Common.{◌≡◌, ℕ, ◌+◌, ◌-◌, ◌*◌, ◌<◌, ◌≤◌, Bool, true, not, eqb, ltb, leb, get_or, sym, refl, ◌∙◌, inl, inr, arith}
 use Rattle.std.proofs.lemmas.Bool.{and_parts, and_from, ltb-true, leb-true, eqb-true, lt-ltb, le-leb, eq-eqb, cases_order, not-true, both_ways, cond-true, cond_both}
 use Rattle.font.specs.Glyphs.{rows, in_font, glyph_row, Lawful}
 use Rattle.font.proofs.Below.{all_below, passes, passing}

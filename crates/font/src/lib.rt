@@ -1,4 +1,6 @@
 // The lettering: for every code from 32 to 126 a glyph of eight rows, each row five dots as the bits of a number.
+#![tactic(auto)]
+
 ghost use Rattle.std.specs.Prelude.{◌≡◌, ◌<◌, true, slice_index};
 ghost use Rattle.font.specs.Glyphs.{drawing, rows, glyph_row, Lawful};
 

@@ -1,6 +1,5 @@
 -- How large sums, products and quotients of signed numbers get: the size of a number is its nat_abs.
 use Rattle.std.proofs.Common.{◌≡◌, ℕ, zero, suc, ◌+◌, ◌*◌, ◌^◌, ◌<◌, ◌≤◌, ℤ, pos, negsuc, ◌+ℤ◌, ◌-ℤ◌, ◌*ℤ◌, neg_ℤ, nat_abs, ◌≤ℤ◌, refl, le_trans, suc-mul, arith, lit<, lit≤, w16, SFits}
-use lib.Signed.{mag}
 use mir.Val.{hbits}
 use mir.Syntax.{Width}
 use Rattle.std.proofs.lemmas.Nat.{mul-le, div_below}

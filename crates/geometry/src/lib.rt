@@ -1,4 +1,6 @@
 // Where the points of the field lie on a sheet, and which points a line has there.
+#![tactic(auto)]
+
 mod field;
 mod laws;
 mod lines;

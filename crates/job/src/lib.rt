@@ -1,4 +1,6 @@
 // Jobs for the queue: a side and a stream, drawn on a bit sheet and printed.
+#![tactic(auto)]
+
 mod admit;
 mod draw;
 mod refusal;

@@ -1,4 +1,6 @@
 // Every refusal number, by a job or, where no job can show it, by the call that does.
+#![tactic(auto)]
+
 #[cfg(test)]
 mod calls;
 #[cfg(test)]

@@ -1,4 +1,6 @@
 // Lists the statements of a stream that comes on standard input, and how it ends.
+#![tactic(auto)]
+
 use listing::listing::list;
 use std::io;
 use std::io::{Read, Write};

@@ -1,4 +1,6 @@
 // Streams as lines of text.
+#![tactic(auto)]
+
 mod line;
 pub mod listing;
 mod put;

@@ -1,5 +1,5 @@
 -- Some number below a bound passes a test: how a loop that looks for it goes on, and how it ends.
-use Rattle.std.proofs.Common.{◌≡◌, ℕ, zero, suc, ◌+◌, ◌<◌, ◌≤◌, Bool, true, false, ◌||◌, ◌⊎◌, sym, refl, subst, inl, inr, add-one, arith}
+use Rattle.std.proofs.Common.{◌≡◌, ℕ, zero, suc, ◌+◌, ◌<◌, ◌≤◌, Bool, true, false, refl, subst, inl, inr, add-one, arith}
 use Rattle.std.proofs.lemmas.Bool.{or_from, or_left, or_right, cases_order}
 use Rattle.mark.specs.Covers.{any_below}
 

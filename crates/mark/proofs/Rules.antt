@@ -1,7 +1,7 @@
 -- The rules of coverage.
-use Rattle.std.proofs.Common.{◌≡◌, ℕ, ◌-◌, ◌/◌, ◌%◌, ◌^◌, ◌<◌, ◌≤◌, Bool, true, false, cond, ◌&&◌, eqb, ltb, leb, ◌⊎◌, ℤ, sym, refl, ap, ◌∙◌, inl, inr, arith}
+use Rattle.std.proofs.Common.{◌≡◌, ℕ, ◌-◌, ◌/◌, ◌%◌, ◌^◌, false, ◌&&◌, eqb, ltb, leb, ℤ, ap, ◌∙◌, inl, inr}
 use native.Mathlib.Nat.{zero-div}
-use Rattle.std.proofs.lemmas.Bool.{and_left, and_right, le-ltb, lt-leb}
+use Rattle.std.proofs.lemmas.Bool.{and_left, and_right, lt-leb}
 use Rattle.geometry.specs.declared.field.Point.{Point}
 use Rattle.font.specs.Glyphs.{glyph_row, in_font}
 use Rattle.mark.specs.declared.Mark.{Mark}

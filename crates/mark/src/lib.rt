@@ -1,4 +1,6 @@
 // The marks that a sheet takes, and the pixels that each covers.
+#![tactic(auto)]
+
 ghost use Rattle.std.specs.Prelude.{◌≡◌};
 ghost use Rattle.mark.specs.Covers.{inks_point};
 

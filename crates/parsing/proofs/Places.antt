@@ -1,6 +1,6 @@
 -- A part of a part lies in the whole.
 use Rattle.std.proofs.Common.{◌≡◌, ℕ, ◌+◌, ◌-◌, ◌≤◌, List, length, take, drop, sym, ap, ◌∙◌, arith, length-drop, length-take}
-use Rattle.std.proofs.lemmas.List.{take_rest, take-take, drop-drop, drop-take}
+use Rattle.std.proofs.lemmas.List.{take-take, drop-drop, drop-take}
 
 -- `bs` lies in `ws` at `at`
 module _ (at : ℕ) (ws bs : List ℕ) (lies : take (length bs) (drop at ws) ≡ bs) where

@@ -1,4 +1,6 @@
 // Statements read from their bytes.
+#![tactic(auto)]
+
 mod calling;
 mod heading;
 pub mod read;

@@ -1,4 +1,6 @@
 // Performing the statements that are no calls, on any sheet.
+#![tactic(auto)]
+
 mod codes;
 mod field;
 mod marks;

@@ -1,4 +1,6 @@
 // Whole lists of calls played on a new reader and a sheet, or on two.
+#![tactic(auto)]
+
 mod answer;
 mod both;
 mod cutting;

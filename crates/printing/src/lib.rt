@@ -1,4 +1,6 @@
 // The text of a drawn page and of the report on it, written into a lent buffer.
+#![tactic(auto)]
+
 mod page;
 mod pieces;
 mod printer;

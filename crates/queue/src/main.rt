@@ -1,4 +1,6 @@
 // Reads a job from standard input, draws it, and prints its page and report.
+#![tactic(auto)]
+
 use job::draw_job;
 use reader::reader::Reader;
 use std::io::{Read, Write};

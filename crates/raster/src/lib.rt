@@ -1,4 +1,6 @@
 // A sheet that keeps its pixels in lent memory, a bit to a pixel.
+#![tactic(auto)]
+
 mod asking;
 mod drawing;
 mod page;

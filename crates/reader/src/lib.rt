@@ -1,4 +1,6 @@
 // A reader of a drawing stream, on any sheet.
+#![tactic(auto)]
+
 pub mod answers;
 mod define;
 mod obey;

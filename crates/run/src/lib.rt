@@ -1,4 +1,6 @@
 // What a stream means: its run on a sheet, and the laws over whole runs.
+#![tactic(auto)]
+
 pub mod laws;
 pub mod numbers;
 pub mod types;

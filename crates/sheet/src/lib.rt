@@ -1,4 +1,6 @@
 // A sheet: what it means, and what its calls do to that.
+#![tactic(auto)]
+
 ghost use Rattle.std.specs.Prelude.{◌≡◌, false};
 ghost use Rattle.std.specs.Borrow.{GName};
 ghost use Rattle.mark.specs.Covers.{on_sheet};

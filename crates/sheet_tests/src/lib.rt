@@ -1,4 +1,6 @@
 // Worked cases of the geometry and of both sheets.
+#![tactic(auto)]
+
 #[cfg(test)]
 mod geometry_cases;
 #[cfg(test)]

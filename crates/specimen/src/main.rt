@@ -1,4 +1,6 @@
 // Draws the specimen on a bit sheet of side 512, and prints its rows that bear ink.
+#![tactic(auto)]
+
 use anyhow::anyhow;
 use specimen_page::{draw_specimen, first_row, inked_pixels, past_rows, row_text};
 use std::io::Write;

@@ -1,4 +1,6 @@
 // A specimen of what a sheet takes: all letters, frames in each line mode and dots; and a page's rows as text.
+#![tactic(auto)]
+
 mod drawing;
 mod rows;
 

@@ -2,7 +2,6 @@
 use Rattle.std.proofs.Common.{◌≡◌, ℕ, ◌≤◌, Bool, true, false, cond, ◌&&◌, eqb, ltb, List, [], ◌∷◌, ◌++◌, length, take, drop, Some, None, Option, sym, refl, ap, ◌∙◌, subst, inl, inr}
 use Rattle.std.proofs.lemmas.List.{append_assoc, take-append-drop, length-take-le}
 use Rattle.std.proofs.lemmas.Bool.{eqb-true, ltb-false}
-use Rattle.statement.specs.declared.layout.Bare.{Bare}
 use Rattle.statement.specs.declared.layout.Layout.{Layout}
 use Rattle.statement.specs.declared.layout.Layout.TheVariants as layout
 use Rattle.statement.specs.declared.types.Fault.TheVariants as fault
@@ -10,7 +9,7 @@ use Rattle.statement.specs.declared.types.Header.{Header}
 use Rattle.statement.specs.declared.types.Header.TheVariants as header
 use Rattle.statement.specs.declared.types.Standing.{Standing}
 use Rattle.statement.specs.Statements.{CallTail, call, Said, subhed, act, alone, layout_of, allowed}
-use Rattle.statement.specs.Reading.{more, refused, whole, onto, string, lawful, is_name, header_of, titled, headed, heading, lawful_tail, named_tail, tail_of, tailed, calling, arguments, admitted, reading}
+use Rattle.statement.specs.Reading.{more, refused, whole, onto, string, is_name, header_of, titled, headed, heading, lawful_tail, named_tail, tail_of, tailed, calling, arguments, admitted, reading}
 use Rattle.spelling.specs.Spelling.{code_of, spell_string, spell_tail, header_byte, spell_arguments, spell, first_of, unless, tail_fits, Lawful}
 use Rattle.spelling.proofs.Fronts.{Matches, matches_at, matches_cons, matches_before, matches_onto, by_first, by_second, string_found}
 use Rattle.spelling.proofs.Tails.{none≢some, pick, tail_found}

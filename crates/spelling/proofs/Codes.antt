@@ -1,15 +1,14 @@
 -- Codes and what follows them: each layout has one code.
-use Rattle.std.proofs.Common.{◌≡◌, ℕ, ◌+◌, ◌-◌, Bool, true, false, cond, ◌&&◌, eqb, List, [], ◌∷◌, Some, None, Option, sym, refl, ap, ◌∙◌, subst, arith}
+use Rattle.std.proofs.Common.{◌≡◌, ℕ, ◌+◌, ◌-◌, Bool, true, false, cond, ◌&&◌, eqb, List, [], ◌∷◌, Some, refl, ap, arith}
 use Rattle.std.proofs.lemmas.Bool.{eqb-true, eqb-false, and_parts}
 use Rattle.statement.specs.declared.layout.Trace.TheVariants as trace
 use Rattle.statement.specs.declared.layout.Aim.TheVariants as aim
 use Rattle.statement.specs.declared.layout.Manner.TheVariants as manner
 use Rattle.statement.specs.declared.layout.Setting.TheVariants as setting
-use Rattle.statement.specs.declared.layout.Bare.{Bare}
 use Rattle.statement.specs.declared.layout.Bare.TheVariants as bare
 use Rattle.statement.specs.declared.layout.Layout.{Layout}
 use Rattle.statement.specs.declared.layout.Layout.TheVariants as layout
-use Rattle.statement.specs.Statements.{Said, alone, layouts, item, layout_of}
+use Rattle.statement.specs.Statements.{alone, layouts, item, layout_of}
 use Rattle.spelling.specs.Spelling.{travel_code, text_code, setting_code, code_of}
 use Rattle.spelling.proofs.Tails.{none≢some}
 

@@ -1,12 +1,11 @@
 -- How long lawful statements and their parts are.
-use Rattle.std.proofs.Common.{◌≡◌, ℕ, suc, ◌+◌, ◌/◌, ◌%◌, ◌≤◌, Bool, true, false, cond, ◌&&◌, ltb, leb, List, [], ◌∷◌, ◌++◌, length, sym, refl, ap, ◌∙◌, subst, arith, length-append}
+use Rattle.std.proofs.Common.{◌≡◌, ℕ, ◌+◌, ◌/◌, ◌%◌, ◌≤◌, Bool, true, false, cond, ◌&&◌, ltb, leb, List, [], ◌∷◌, ◌++◌, length, sym, subst, arith, length-append}
 use Rattle.std.proofs.lemmas.Bool.{leb-true}
-use Rattle.statement.specs.declared.types.Fault.{Fault}
 use Rattle.statement.specs.declared.types.Fault.TheVariants as fault
 use Rattle.statement.specs.declared.types.Header.{Header}
-use Rattle.statement.specs.Statements.{CallTail, Plain, null, travel, letters, escape, assign, mark, movemk, drawmk, Act, plain, call, Said, erase, endpic, subhed, subend, act}
+use Rattle.statement.specs.Statements.{CallTail, Plain, null, travel, letters, escape, assign, mark, movemk, drawmk, plain, call, Said, erase, endpic, subhed, subend, act}
 use Rattle.statement.specs.Reading.{is_text, is_name, lawful_tail, named_tail}
-use Rattle.spelling.specs.Spelling.{spell_count, spell_string, spell_tail, header_byte, spell_arguments, spell, first_of, unless, tail_fits, Lawful}
+use Rattle.spelling.specs.Spelling.{spell_string, spell_tail, header_byte, spell_arguments, spell, first_of, unless, tail_fits, Lawful}
 use Rattle.spelling.proofs.Spelt.{neither, not_one}
 use Rattle.spelling.proofs.Tails.{tail_short}
 

@@ -1,9 +1,7 @@
 -- A statement's spelling reads as that statement, and nothing else does.
-use Rattle.std.proofs.Common.{◌≡◌, ℕ, suc, ◌+◌, ◌<◌, ◌≤◌, Bool, true, false, cond, ◌&&◌, ltb, leb, List, [], ◌∷◌, ◌++◌, length, take, drop, ℤ, Some, None, Option, sym, refl, ap, ◌∙◌, subst, arith, length-append, length-take}
-use Rattle.std.specs.List.{AllByRecursion as All}
-use Rattle.std.proofs.lemmas.List.{append-nil, append_assoc, take-append-drop, take_all, take_at}
+use Rattle.std.proofs.Common.{◌≡◌, ℕ, ◌<◌, ◌≤◌, Bool, true, false, cond, ◌&&◌, ltb, leb, List, [], ◌∷◌, ◌++◌, length, take, drop, ℤ, Some, None, Option, sym, refl, ap, ◌∙◌, arith, length-append, length-take}
+use Rattle.std.proofs.lemmas.List.{append-nil, take-append-drop, take_all, take_at}
 use Rattle.std.proofs.lemmas.Bool.{leb-true, le-ltb, and_parts}
-use Rattle.statement.specs.declared.layout.Bare.{Bare}
 use Rattle.statement.specs.declared.layout.Bare.TheVariants as bare
 use Rattle.statement.specs.declared.layout.Layout.{Layout}
 use Rattle.statement.specs.declared.layout.Layout.TheVariants as layout
@@ -14,16 +12,16 @@ use Rattle.statement.specs.declared.types.Fault.TheVariants as fault
 use Rattle.statement.specs.declared.types.Header.{Header}
 use Rattle.statement.specs.declared.types.Header.TheVariants as header
 use Rattle.statement.specs.declared.types.Standing.{Standing}
-use Rattle.statement.specs.Statements.{CallTail, Plain, null, travel, letters, escape, assign, mark, movemk, drawmk, Act, plain, call, Said, erase, endpic, subhed, subend, act, layout_of, allowed}
-use Rattle.statement.specs.Reading.{Shape, more, refused, whole, onto, string, coordinate, lawful, travelled, is_text, texted, escaped, is_name, header_of, titled, heading, lawful_tail, named_tail, tail_of, tailed, calling, arguments, admitted, reading}
-use Rattle.spelling.specs.Spelling.{code_of, spell_string, spell_tail, spell_plain, spell_act, header_byte, spell_arguments, spell, first_of, unless, tail_fits, plain_fault, act_fault, fault_of, Lawful}
-use Rattle.spelling.specs.Laws.{Reads, Spelt, SpeltOnce}
-use Rattle.spelling.proofs.Settles.{Settled, reading_settles, stays_whole, stays_refused}
+use Rattle.statement.specs.Statements.{CallTail, Plain, null, travel, letters, escape, assign, mark, movemk, drawmk, plain, call, Said, erase, endpic, subhed, subend, act, layout_of, allowed}
+use Rattle.statement.specs.Reading.{Shape, more, refused, whole, onto, string, lawful, travelled, is_text, texted, escaped, is_name, header_of, titled, heading, lawful_tail, named_tail, tail_of, tailed, calling, arguments, admitted, reading}
+use Rattle.spelling.specs.Spelling.{code_of, spell_string, spell_tail, spell_plain, header_byte, spell_arguments, spell, first_of, unless, tail_fits, Lawful}
+use Rattle.spelling.specs.Laws.{Spelt, SpeltOnce}
+use Rattle.spelling.proofs.Settles.{stays_whole, stays_refused}
 use Rattle.spelling.proofs.Fronts.{Bytes, string_spelt}
-use Rattle.spelling.proofs.Tails.{none≢some, coordinate_spelt, tail_spelt, tail_short}
+use Rattle.spelling.proofs.Tails.{coordinate_spelt, tail_spelt, tail_short}
 use Rattle.spelling.proofs.Codes.{layout_code, layout_of_code}
 use Rattle.spelling.proofs.Arguments.{more≢whole, refused≢whole}
-use Rattle.spelling.proofs.Begins.{Begins, begins}
+use Rattle.spelling.proofs.Begins.{begins}
 
 -- no fault: neither of two
 pub neither : (b : Bool) (f : Fault) (o : Option Fault) → first_of (unless b f) o ≡ None → (b ≡ true) × (o ≡ None)

@@ -1,16 +1,15 @@
 -- The tail of a call: what is found in bytes is spelt by them, and what is spelt is found.
-use Rattle.std.proofs.Common.{◌≡◌, ℕ, suc, ◌+◌, ◌-◌, ◌*◌, ◌/◌, ◌%◌, ◌<◌, ◌≤◌, Bool, true, false, cond, ◌&&◌, eqb, ltb, leb, ◌⊎◌, List, [], ◌∷◌, ◌++◌, length, take, drop, ℤ, pos, negsuc, Some, None, Option, sym, refl, ap, ◌∙◌, subst, inl, inr, div-add-mod', arith, length-append, w16, SFits, to_z, of_z}
-use lib.Seq.{take-length, drop-length}
-use Rattle.std.proofs.lemmas.List.{append-nil, take-append-drop, length-take-le, take_at, drop_at}
+use Rattle.std.proofs.Common.{◌≡◌, ℕ, ◌/◌, ◌%◌, ◌≤◌, Bool, true, false, cond, ◌&&◌, eqb, leb, ◌⊎◌, List, [], ◌∷◌, ◌++◌, length, take, drop, ℤ, pos, negsuc, Some, None, Option, sym, refl, ap, ◌∙◌, subst, inl, inr, div-add-mod', arith, length-append, w16, SFits, to_z, of_z}
+use Rattle.std.proofs.lemmas.List.{take-append-drop, length-take-le, take_at, drop_at}
 use Rattle.std.proofs.lemmas.Int.{to_z-of_z}
 use Rattle.std.proofs.lemmas.Bool.{eqb-true, leb-true, le-leb, and_parts, and_from}
 use Rattle.std.proofs.lemmas.Bool.Decides.{nat_tests}
 use Rattle.statement.specs.declared.layout.Aim.{Aim}
 use Rattle.statement.specs.declared.layout.Aim.TheVariants as aim
 use Rattle.statement.specs.Statements.{CallTail, empty, coded}
-use Rattle.statement.specs.Reading.{coordinate, lawful, lawful_at, lawful_tail, tail_at, tail_end, tail_as, coded_tail, tail_of}
-use Rattle.spelling.specs.Spelling.{spell_pair, spell_as, spell_at, tail_byte, spell_tail, as_length, tail_fits}
-use Rattle.spelling.proofs.Fronts.{Matches, matches_same, matches_at, matches_cons, matches_before, matches_onto, by_first, by_second, pair_matches}
+use Rattle.statement.specs.Reading.{coordinate, lawful, lawful_at, lawful_tail, tail_at, tail_end, tail_as, tail_of}
+use Rattle.spelling.specs.Spelling.{spell_pair, spell_at, spell_tail, tail_fits}
+use Rattle.spelling.proofs.Fronts.{Matches, matches_same, matches_at, matches_cons, matches_onto, by_first, pair_matches}
 
 pub none≢some : {A : Type 0} (a : A) → None ≡ Some a → ⊥
 none≢some a e = let z : ◌≡◌ {A = ℕ} 0 1 = cc in omega arith

@@ -4,7 +4,7 @@ use Rattle.std.specs.List.{AllByRecursion as All}
 use Rattle.statement.specs.declared.types.Standing.{Standing}
 use Rattle.statement.specs.declared.types.Standing.TheVariants.{Outside}
 use Rattle.statement.specs.Statements.{Said, allowed, onwards}
-use Rattle.statement.specs.Reading.{Shape, more, whole, reading}
+use Rattle.statement.specs.Reading.{more, whole, reading}
 use Rattle.spelling.specs.Spelling.{code_of, spell, Lawful}
 use Rattle.spelling.specs.Walking.{Told, Walk, longest_stream, read_back}
 

@@ -1,9 +1,9 @@
 -- Reading a stream back: its statements with their places, or the refusal with its place. Nothing is performed.
-use Rattle.std.specs.Prelude.{ℕ, ◌+◌, ◌-◌, Bool, true, false, cond, List, [], ◌∷◌, ◌++◌, length, Some, None, fold, Option, nat_le}
+use Rattle.std.specs.Prelude.{ℕ, ◌+◌, ◌-◌, cond, List, [], ◌∷◌, ◌++◌, length, Some, None, fold, Option, nat_le}
 use Rattle.statement.specs.declared.types.Fault.{Fault}
 use Rattle.statement.specs.declared.types.Fault.TheVariants as fault
 use Rattle.statement.specs.declared.types.Standing.{Standing}
-use Rattle.statement.specs.declared.types.Standing.TheVariants.{Outside, Picture, Definition}
+use Rattle.statement.specs.declared.types.Standing.TheVariants.{Outside}
 use Rattle.statement.specs.Statements.{Said, onwards}
 use Rattle.statement.specs.Reading.{Shape, more, refused, whole, reading}
 

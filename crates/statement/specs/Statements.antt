@@ -1,5 +1,5 @@
 -- What a statement says, its names and texts as lists of bytes, and where it may stand.
-use Rattle.std.specs.Prelude.{ℕ, ◌-◌, Bool, true, false, cond, not, ◌&&◌, ◌||◌, List, [], ◌∷◌, ℤ, Some, None, Option, ◌==◌}
+use Rattle.std.specs.Prelude.{ℕ, ◌-◌, Bool, cond, not, ◌||◌, List, [], ◌∷◌, ℤ, Some, None, Option, ◌==◌}
 use Rattle.statement.specs.declared.layout.Trace.{Trace}
 use Rattle.statement.specs.declared.layout.Trace.TheVariants as trace
 use Rattle.statement.specs.declared.layout.Aim.{Aim}

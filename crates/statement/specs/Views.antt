@@ -1,5 +1,5 @@
 -- What the values of the code say.
-use Rattle.std.specs.Prelude.{◌≡◌, ℕ, ◌+◌, cond, List, [], ◌∷◌, length, take, drop, ℤ, Some, None, Option, nat_lt}
+use Rattle.std.specs.Prelude.{◌≡◌, ℕ, ◌+◌, cond, List, length, take, drop, Some, None, Option, nat_lt}
 use Rattle.std.specs.Option.{option_map}
 use Rattle.statement.specs.declared.layout.Trace.TheVariants as trace
 use Rattle.statement.specs.declared.layout.Aim.TheVariants as aim
@@ -14,7 +14,7 @@ use Rattle.statement.specs.declared.types.Statement.{Statement}
 use Rattle.statement.specs.declared.types.Statement.TheVariants as stmt
 use Rattle.statement.specs.declared.types.Reading.{Reading}
 use Rattle.statement.specs.declared.types.Reading.TheVariants as came
-use Rattle.statement.specs.Statements.{CallTail, empty, coded, Plain, null, travel, letters, escape, assign, mark, movemk, drawmk, Act, plain, call, Said, erase, endpic, subhed, subend, act}
+use Rattle.statement.specs.Statements.{CallTail, empty, coded, null, travel, letters, escape, assign, mark, movemk, drawmk, plain, call, Said, erase, endpic, subhed, subend, act}
 use Rattle.statement.specs.Reading.{Shape, more, refused, whole}
 
 -- the number under which a fault is refused

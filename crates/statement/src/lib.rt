@@ -1,4 +1,6 @@
 // The statements of a stream: their codes, what follows each, and what each part must keep.
+#![tactic(auto)]
+
 pub mod codes;
 pub mod coordinate;
 pub mod header;

@@ -1,4 +1,6 @@
 // Tests of the reading of statements.
+#![tactic(auto)]
+
 #[cfg(test)]
 mod counts;
 #[cfg(test)]

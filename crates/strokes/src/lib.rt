@@ -1,4 +1,6 @@
 // A sheet that keeps its marks as strokes in lent memory.
+#![tactic(auto)]
+
 mod asking;
 mod first;
 mod records;

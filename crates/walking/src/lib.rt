@@ -1,4 +1,6 @@
 // A stream read back statement by statement, and its statements told with their places.
+#![tactic(auto)]
+
 pub mod laws;
 pub mod story;
 pub mod walk;

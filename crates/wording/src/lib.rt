@@ -1,4 +1,6 @@
 // Lines of text as statements.
+#![tactic(auto)]
+
 mod argument;
 pub mod laws;
 mod name;

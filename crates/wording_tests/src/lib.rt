@@ -1,4 +1,6 @@
 // Lines and their statements, worked out by hand.
+#![tactic(auto)]
+
 #[cfg(test)]
 mod lines;
 #[cfg(test)]

@@ -1,4 +1,6 @@
 // Streams written into lent memory: what the writer accepts, the reader reads as the same statements.
+#![tactic(auto)]
+
 mod faults;
 mod names;
 pub mod opening;

@@ -1,4 +1,6 @@
 // Tests of the writer at its limits.
+#![tactic(auto)]
+
 #[cfg(test)]
 mod example;
 #[cfg(test)]

@@ -1,4 +1,4 @@
-use Rattle.std.proofs.Common.{◌≡◌, ℕ, List, ◌∷◌, sym, ap, ◌∙◌, subst, rules}
+use Rattle.std.proofs.Common.{ℕ, List, ◌∷◌, sym, ap, ◌∙◌, subst, rules}
 use Rattle.std.proofs.lemmas.Slice.{first_rest}
 use Rattle.statement.specs.Reading.{escaping}
 use Rattle.arguments.specs.Stops.{PartsBy}

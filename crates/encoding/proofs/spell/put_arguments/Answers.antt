@@ -1,8 +1,7 @@
-use Rattle.std.proofs.Common.{◌≡◌, ◌+◌, [], ◌∷◌, ◌++◌, length, sym, ap, ◌∙◌, arith}
+use Rattle.std.proofs.Common.{[], ◌∷◌, ◌++◌, length, sym, ap, ◌∙◌, arith}
 use lib.Seq.{sets}
-use Rattle.statement.specs.Statements.{Said}
 use Rattle.statement.specs.Views.{bytes_of, said_by, tail_said}
-use Rattle.spelling.specs.Spelling.{spell_string, spell_tail, spell_arguments, header_byte}
+use Rattle.spelling.specs.Spelling.{spell_string, spell_tail, spell_arguments}
 use Rattle.spelling.proofs.Lengths.{heads, calls}
 use Rattle.encoding.proofs.Puts.{sets_then}
 use Rattle.encoding.proofs.spell.put_arguments.Goals as goal

@@ -1,7 +1,6 @@
-use Rattle.std.proofs.Common.{◌≡◌, ◌+◌, ◌∷◌, length, sym, ap, ◌∙◌, arith}
+use Rattle.std.proofs.Common.{◌∷◌, length, sym, ap, ◌∙◌, arith}
 use lib.Seq.{sets}
 use Rattle.std.specs.Option.{option_map}
-use Rattle.statement.specs.Statements.{coded}
 use Rattle.statement.specs.Views.{bytes_of, tail_said}
 use Rattle.spelling.specs.Spelling.{spell_tail, tail_fits}
 use Rattle.encoding.proofs.Puts.{coded_length, coded_bytes}

@@ -1,4 +1,4 @@
-use Rattle.std.proofs.Common.{◌≡◌, true, sym, ap, ◌∙◌, subst}
+use Rattle.std.proofs.Common.{sym, ◌∙◌, subst}
 use Rattle.sheet.specs.Meanings.{Meaning, marked_all}
 use Rattle.sheet.specs.Alike.{Alike}
 use Rattle.sheet.proofs.Twins.{alike_answers, alike_marked, marked_more, marked_end, answers_more, answers_end}
