@@ -18,7 +18,7 @@ use Rattle.writer.specs.declared.types.Refusal.{Refusal}
 use Rattle.writer.specs.Bodies.{stays_short}
 use Rattle.writer.specs.Names.{is_known, with_name, is_one_too_many}
 use Rattle.writer.specs.Answers.{frames, write_answer, picture_answer, definition_answer, heading, closing}
-use Rattle.history.specs.Tales.{State, idle, inside_after, named_after, after, where_fine, taken, onward, ending, tale, accepted}
+use Rattle.history.specs.Tales.{State, idle, inside_after, named_after, after, where_fine, taken, onward, ending, tale}
 use Rattle.history.specs.Laws.{ShortBodies, defined, AcceptsLawful, AcceptsWithinLimits}
 use Rattle.writer.proofs.Judged.{writes, heads}
 

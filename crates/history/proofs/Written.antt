@@ -1,5 +1,5 @@
 -- What a finished book says.
-use Rattle.std.proofs.Common.{◌≡◌, ℕ, ◌+◌, ◌≤◌, List, [], ◌++◌, length, take, drop, Ok, sym, refl, ap, ◌∙◌, zero-add, arith}
+use Rattle.std.proofs.Common.{◌≡◌, ℕ, ◌+◌, ◌≤◌, List, [], ◌++◌, length, take, drop, sym, ap, ◌∙◌, zero-add, arith}
 use lib.Seq.{sets-eq}
 use Rattle.std.proofs.lemmas.List.{take_at}
 use Rattle.spelling.specs.Walking.{read_back}
@@ -7,7 +7,6 @@ use Rattle.spelling.specs.Laws.{spell_all, recited}
 use Rattle.walking.proofs.Walks.{reads_back}
 use Rattle.history.specs.declared.operation.Operation.{Operation}
 use Rattle.history.specs.Tales.{idle, accepted, book}
-use Rattle.history.specs.Laws.{over_front}
 use Rattle.history.proofs.Accepts.{accepts_lawful}
 
 pub record Written (out : List ℕ) (n : ℕ) (was : List ℕ) (ops : List Operation) : Type 0 where

@@ -1,5 +1,5 @@
 -- A text, code by code.
-use Rattle.std.proofs.Common.{◌≡◌, ℕ, ◌+◌, ◌<◌, ◌≤◌, true, false, cond, List, [], ◌∷◌, length, get_or, drop, pos, ◌+ℤ◌, sym, refl, ap, ◌∙◌, add-one, drop-cons}
+use Rattle.std.proofs.Common.{◌≡◌, ℕ, ◌+◌, ◌<◌, ◌≤◌, true, false, cond, List, length, get_or, drop, pos, ◌+ℤ◌, sym, refl, ap, ◌∙◌, add-one, drop-cons}
 use lib.Signed.{lt_z}
 use Rattle.std.proofs.lemmas.List.{drop_all}
 use Rattle.statement.specs.declared.layout.Manner.{Manner}

@@ -1,10 +1,10 @@
 -- The stack of marked points: one point more, one point less.
-use Rattle.std.proofs.Common.{◌≡◌, ℕ, zero, suc, ◌+◌, ◌-◌, ◌<◌, ◌≤◌, false, cond, leb, ◌≢◌, List, [], ◌∷◌, length, get_or, set, Some, None, sym, refl, ap, ◌∙◌, add-one, arith, get_or-set_other, get_or-set_same}
+use Rattle.std.proofs.Common.{◌≡◌, ℕ, zero, suc, ◌+◌, ◌-◌, ◌<◌, ◌≤◌, cond, ◌≢◌, List, [], ◌∷◌, length, get_or, set, Some, None, sym, refl, ap, ◌∙◌, add-one, arith, get_or-set_other, get_or-set_same}
 use borrow.Author.Tests.{lt-leb}
 use Rattle.geometry.specs.declared.field.Point.{Point}
 use Rattle.statement.specs.declared.layout.Trace.{Trace}
 use Rattle.run.specs.declared.types.Fault.TheVariants as fault
-use Rattle.run.specs.Inks.{Ink, Drawn, good, stopped, origin, marks_as, go}
+use Rattle.run.specs.Inks.{Ink, good, stopped, origin, marks_as, go}
 use Rattle.run.specs.Performing.{push_mark, recall}
 use Rattle.pen.specs.Views.{stack_of, top_of, below_top}
 

@@ -3,7 +3,7 @@ use Rattle.std.specs.Prelude.{ℕ, zero, suc, cond, List, [], ◌∷◌, Some, N
 use Rattle.std.specs.Result.{result_err}
 use Rattle.geometry.specs.declared.field.Point.{Point}
 use Rattle.sheet.specs.Meanings.{Meaning}
-use Rattle.statement.specs.Statements.{Plain, Act, plain, call, Said, erase, endpic, subhed, subend, act}
+use Rattle.statement.specs.Statements.{plain, call, Said, erase, endpic, subhed, subend, act}
 use Rattle.run.specs.declared.types.Fault.{Fault}
 use Rattle.run.specs.Inks.{Ink, Drawn, good, origin, on_field}
 use Rattle.run.specs.Performing.{effect}

@@ -1,5 +1,5 @@
 -- The text of a page, pixel by pixel and row by row.
-use Rattle.std.proofs.Common.{◌≡◌, ℕ, zero, suc, ◌+◌, ◌*◌, ◌<◌, ◌≤◌, List, [], ◌∷◌, ◌++◌, map, length, set, sym, refl, ap, ◌∙◌, mul-le-mul_right, add-mul, one-mul, zero-add, zero-mul, add-one, arith, length-append}
+use Rattle.std.proofs.Common.{◌≡◌, ℕ, zero, suc, ◌+◌, ◌*◌, ◌<◌, ◌≤◌, List, [], ◌∷◌, ◌++◌, map, length, set, sym, ap, ◌∙◌, mul-le-mul_right, add-mul, one-mul, zero-add, zero-mul, add-one, arith, length-append}
 use lib.Arith.{digits_lt}
 use lib.Seq.{sets}
 use Rattle.std.proofs.lemmas.List.FromFn.{length-map-range_with_len, map-range_with_len_more}

@@ -1,12 +1,9 @@
 -- A page and the line below it.
-use Rattle.std.proofs.Common.{◌≡◌, ℕ, ◌+◌, ◌*◌, ◌≤◌, true, cond, List, ◌++◌, length, drop, sym, ap, ◌∙◌, zero-add, arith, length-append}
+use Rattle.std.proofs.Common.{◌≡◌, ℕ, ◌+◌, ◌≤◌, cond, List, ◌++◌, length, drop, sym, ap, ◌∙◌, zero-add, arith, length-append}
 use lib.Seq.{sets, sets-eq}
 use Rattle.std.proofs.lemmas.Bool.{le-leb}
-use Rattle.sheet.specs.Meanings.{Meaning}
-use Rattle.printing.specs.Pages.{page_text}
 use Rattle.printing.specs.Prints.{overlaid}
 use Rattle.printing.proofs.Laying.{laid_more}
-use Rattle.printing.proofs.Rows.{length_rows}
 
 pub laid_over : (text buffer : List ℕ) → length text ≤ length buffer → sets buffer 0 text ≡ overlaid text buffer
 laid_over text buffer h =

@@ -1,5 +1,5 @@
 -- What the pixels of a page are after one is inked, or all are wiped.
-use Rattle.std.proofs.Common.{◌≡◌, ℕ, suc, ◌+◌, ◌*◌, ◌/◌, ◌%◌, ◌<◌, ◌≤◌, Bool, true, false, ◌&&◌, ◌||◌, eqb, ◌⊎◌, List, length, get_or, ℤ, pos, negsuc, nat_abs, None, sym, refl, ap, ◌∙◌, subst, inl, inr, add-one, arith}
+use Rattle.std.proofs.Common.{◌≡◌, ℕ, ◌+◌, ◌%◌, ◌<◌, Bool, true, false, ◌&&◌, ◌||◌, eqb, List, length, get_or, ℤ, pos, negsuc, nat_abs, None, sym, refl, ap, ◌∙◌, subst, inl, inr, add-one}
 use lib.Signed.{lt_z, le_z, non_neg}
 use Rattle.std.proofs.lemmas.Bool.{eqb-true, ltb-true, cases_Bool, and_parts, and_left, and_right, false≢true}
 use Rattle.geometry.specs.declared.field.Point.{Point}
@@ -7,8 +7,8 @@ use Rattle.geometry.specs.Lines.{point_of}
 use Rattle.mark.specs.declared.LineMode.{LineMode}
 use Rattle.mark.specs.declared.Mark.{Mark}
 use Rattle.mark.specs.Covers.{on_sheet, same_pixel, same_number, any_below, inks_point, line_inks_at, has_dot, letter_dot, letter_inks_at, covers, reaches}
-use Rattle.sheet.specs.Meanings.{gains, cleared, blank}
-use Rattle.raster.specs.Bits.{row_bytes, page_bytes, bit_at, inked_at, byte_of, with_pixel, Gained, bit_meaning}
+use Rattle.sheet.specs.Meanings.{gains, blank}
+use Rattle.raster.specs.Bits.{page_bytes, bit_at, inked_at, byte_of, with_pixel, Gained, bit_meaning}
 use Rattle.raster.proofs.Bytes.{within_row, within_page, bit_set, or_false, no_bit, Zeros}
 
 part_on : (n : ℕ) (a : ℤ) → le_z (pos 0) a ≡ true → lt_z a (pos n) ≡ true → (nat_abs a < n) × (non_neg a ≡ true)

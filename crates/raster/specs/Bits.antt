@@ -1,5 +1,5 @@
 -- A page of n by n pixels kept as bits: rows of whole bytes, the top row first, the leftmost pixel in a byte's high bit.
-use Rattle.std.specs.Prelude.{◌≡◌, ℕ, ◌+◌, ◌-◌, ◌*◌, ◌/◌, ◌%◌, ◌^◌, ◌<◌, ◌≤◌, Bool, false, ◌&&◌, ◌||◌, List, length, set, ℤ, pos, None, ◌==◌, bit_or, nat_lt, slice_index, slice_set, unsigned_abs}
+use Rattle.std.specs.Prelude.{◌≡◌, ℕ, ◌+◌, ◌-◌, ◌*◌, ◌/◌, ◌%◌, ◌^◌, ◌<◌, ◌≤◌, Bool, false, ◌&&◌, ◌||◌, List, length, ℤ, pos, None, ◌==◌, bit_or, nat_lt, slice_index, slice_set, unsigned_abs}
 use Rattle.mark.specs.Covers.{on_sheet}
 use Rattle.sheet.specs.Meanings.{Meaning}
 

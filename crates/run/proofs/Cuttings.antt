@@ -1,5 +1,5 @@
 -- A list of calls comes to the run of its stream.
-use Rattle.std.proofs.Common.{◌≡◌, ℕ, Bool, true, false, cond, ◌&&◌, List, [], ◌∷◌, ◌++◌, fold, sym, refl, ap, ◌∙◌}
+use Rattle.std.proofs.Common.{◌≡◌, ℕ, Bool, true, false, cond, ◌&&◌, List, [], ◌∷◌, fold, sym, refl, ap, ◌∙◌}
 use Rattle.sheet.specs.Meanings.{Meaning}
 use Rattle.run.specs.declared.types.Refusal.{Refusal}
 use Rattle.run.specs.declared.types.Life.{Life}

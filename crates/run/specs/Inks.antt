@@ -1,5 +1,5 @@
 -- The beam, the modes, the mark stack and the sheet: what performing works on, and the ways the beam goes.
-use Rattle.std.specs.Prelude.{ℕ, Bool, true, false, cond, ◌&&◌, List, [], ◌∷◌, ℤ, pos, negsuc, ◌+ℤ◌, Some, None, Ok, Err, Option, Result, ◌==◌, int_le}
+use Rattle.std.specs.Prelude.{ℕ, Bool, cond, ◌&&◌, List, ℤ, pos, negsuc, ◌+ℤ◌, Some, None, Ok, Err, Option, Result, ◌==◌, int_le}
 use Rattle.geometry.specs.declared.field.Point.{Point}
 use Rattle.mark.specs.declared.LineMode.{LineMode}
 use Rattle.mark.specs.declared.Mark.{Mark}

@@ -1,5 +1,5 @@
 -- What performing a statement does, calls and their bodies included.
-use Rattle.std.specs.Prelude.{ℕ, zero, suc, ◌+◌, Bool, true, false, cond, not, ◌&&◌, ◌||◌, List, [], ◌∷◌, ◌++◌, length, ℤ, Some, None, Option, ◌==◌, nat_le}
+use Rattle.std.specs.Prelude.{ℕ, zero, suc, ◌+◌, Bool, true, false, cond, ◌&&◌, ◌||◌, List, [], ◌∷◌, ◌++◌, length, ℤ, Some, None, Option, ◌==◌, nat_le}
 use Rattle.geometry.specs.declared.field.Point.{Point}
 use Rattle.mark.specs.declared.LineMode.{LineMode}
 use Rattle.mark.specs.declared.LineMode.TheVariants as mode
@@ -13,7 +13,7 @@ use Rattle.statement.specs.declared.types.Header.TheVariants as header
 use Rattle.statement.specs.declared.types.Home.TheVariants as home
 use Rattle.statement.specs.declared.types.Standing.{Standing}
 use Rattle.statement.specs.declared.types.Standing.TheVariants.{Definition}
-use Rattle.statement.specs.Statements.{CallTail, empty, coded, Plain, null, travel, letters, escape, assign, mark, movemk, drawmk, Act, plain, call, Said, erase, endpic, subhed, subend, act}
+use Rattle.statement.specs.Statements.{CallTail, empty, coded, Plain, null, travel, letters, escape, assign, mark, movemk, drawmk, Act, plain, call, erase, endpic, subhed, subend, act}
 use Rattle.statement.specs.Reading.{Shape, more, refused, whole, reading}
 use Rattle.run.specs.declared.types.Fault.{Fault}
 use Rattle.run.specs.declared.types.Fault.TheVariants as fault

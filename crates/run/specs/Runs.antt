@@ -8,7 +8,7 @@ use Rattle.statement.specs.declared.types.Home.{Home}
 use Rattle.statement.specs.declared.types.Home.TheVariants as home
 use Rattle.statement.specs.declared.types.Standing.{Standing}
 use Rattle.statement.specs.declared.types.Standing.TheVariants as standing
-use Rattle.statement.specs.Statements.{Act, Said, erase, endpic, subhed, subend, act}
+use Rattle.statement.specs.Statements.{Said, erase, endpic, subhed, subend, act}
 use Rattle.statement.specs.Reading.{Shape, more, refused, whole, reading}
 use Rattle.spelling.specs.Walking.{longest_stream}
 use Rattle.run.specs.declared.types.Fault.{Fault}

@@ -1,5 +1,5 @@
 -- How a text is set, code by code.
-use Rattle.std.specs.Prelude.{ℕ, Bool, true, false, cond, ◌&&◌, List, [], ◌∷◌, ℤ, pos, negsuc, ◌+ℤ◌, ◌-ℤ◌, ◌==◌, int_lt, nat_le}
+use Rattle.std.specs.Prelude.{ℕ, Bool, cond, ◌&&◌, List, [], ◌∷◌, ℤ, pos, negsuc, ◌+ℤ◌, ◌-ℤ◌, ◌==◌, int_lt, nat_le}
 use Rattle.geometry.specs.declared.field.Point.{Point}
 use Rattle.mark.specs.declared.Mark.TheVariants as mark
 use Rattle.statement.specs.declared.layout.Manner.{Manner}

@@ -1,16 +1,13 @@
 -- Worked cases.
-use Rattle.std.specs.Prelude.{◌≡◌, ℕ, Bool, true, false, List, [], ◌∷◌, map, replicate, ℤ, pos, negsuc, Some, None}
+use Rattle.std.specs.Prelude.{◌≡◌, ℕ, false, List, [], ◌∷◌, map, replicate, ℤ, pos, negsuc, None}
 use Rattle.geometry.specs.Places.{place}
 use Rattle.geometry.specs.Lines.{point_of}
 use Rattle.sheet.specs.Meanings.{Meaning}
 use Rattle.statement.specs.declared.types.Fault.TheVariants as unread
 use Rattle.statement.specs.declared.types.Standing.TheVariants.{Picture}
-use Rattle.statement.specs.Statements.{act}
-use Rattle.statement.specs.Reading.{Shape, more, refused, reading, found, wrong, count, string}
-use Rattle.run.specs.declared.types.Fault.{Fault}
+use Rattle.statement.specs.Reading.{more, refused, reading, found, wrong, count}
 use Rattle.run.specs.declared.types.Fault.TheVariants as fault
-use Rattle.run.specs.declared.types.Life.{Life}
-use Rattle.run.specs.declared.types.Life.TheVariants.{Live, Closed, Refused}
+use Rattle.run.specs.declared.types.Life.TheVariants.{Live, Refused}
 use Rattle.run.specs.Inks.{point}
 use Rattle.run.specs.Runs.{Config, begun, run, refusal_at}
 

@@ -1,5 +1,5 @@
 -- The rows of a page, as text.
-use Rattle.std.specs.Prelude.{ℕ, zero, suc, ◌+◌, Bool, true, false, cond, ℤ, pos}
+use Rattle.std.specs.Prelude.{ℕ, zero, suc, ◌+◌, Bool, cond, pos}
 use Rattle.mark.specs.Covers.{any_below}
 use Rattle.sheet.specs.Meanings.{Meaning}
 

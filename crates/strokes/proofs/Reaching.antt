@@ -1,5 +1,5 @@
 -- Whether a stroke reaches a pixel, by its kind.
-use Rattle.std.proofs.Common.{◌≡◌, ℕ, suc, ◌+◌, ◌<◌, ◌≤◌, Bool, true, false, ℤ, sym, ap, ◌∙◌, arith}
+use Rattle.std.proofs.Common.{◌≡◌, ℕ, suc, ◌+◌, ◌<◌, Bool, true, false, ℤ, sym, ap, ◌∙◌, arith}
 use Rattle.geometry.specs.declared.field.Point.{Point}
 use Rattle.geometry.specs.Lines.{steps_of}
 use Rattle.geometry.specs.Places.{point_pixel}

@@ -1,6 +1,5 @@
 -- The stroke that keeps a mark, and the mark that a stroke keeps.
 use Rattle.std.specs.Prelude.{pos}
-use Rattle.geometry.specs.declared.field.Point.{Point}
 use Rattle.mark.specs.declared.LineMode.TheVariants.{Solid}
 use Rattle.mark.specs.declared.Mark.{Mark}
 use Rattle.mark.specs.declared.Mark.TheVariants as marks

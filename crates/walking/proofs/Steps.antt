@@ -1,7 +1,7 @@
 -- One step through a stream, from between two statements.
-use Rattle.std.proofs.Common.{◌≡◌, ℕ, ◌+◌, ◌-◌, ◌^◌, ◌<◌, ◌≤◌, min, Bool, true, false, cond, leb, List, [], ◌∷◌, ◌++◌, length, get_or, take, drop, Some, None, Option, sym, refl, ap, ◌∙◌, subst, arith, length-append, w8, Fits}
+use Rattle.std.proofs.Common.{◌≡◌, ℕ, ◌+◌, ◌-◌, ◌^◌, ◌<◌, ◌≤◌, min, true, cond, leb, List, [], ◌∷◌, ◌++◌, length, get_or, take, drop, None, sym, refl, ap, ◌∙◌, arith, length-append, w8, Fits}
 use Rattle.std.proofs.ByRecursion.{All-from_get_or}
-use Rattle.std.proofs.lemmas.List.{append-nil, append_assoc, take-append-drop, length-take, length-drop, take_all, drop_all, drop-drop, drop_at, drop-append-le}
+use Rattle.std.proofs.lemmas.List.{append_assoc, take-append-drop, length-take, length-drop, drop_all, drop-drop, drop_at}
 use Rattle.std.proofs.lemmas.Bool.{le-leb}
 use Rattle.statement.specs.declared.types.Fault.{Fault}
 use Rattle.statement.specs.declared.types.Fault.TheVariants as fault
@@ -10,14 +10,14 @@ use Rattle.statement.specs.declared.types.Reading.{Reading}
 use Rattle.statement.specs.declared.types.Reading.TheVariants as came
 use Rattle.statement.specs.Statements.{Said, onwards, allowed}
 use Rattle.statement.specs.Views.{said_by, shape_of}
-use Rattle.statement.specs.Reading.{Shape, more, refused, whole, reading}
+use Rattle.statement.specs.Reading.{more, refused, reading}
 use Rattle.walking.specs.declared.walker.End.{End}
 use Rattle.walking.specs.declared.walker.End.TheVariants as end
 use Rattle.spelling.specs.Answers.{over_front}
 use Rattle.spelling.specs.Spelling.{code_of, spell, Lawful}
 use Rattle.walking.specs.Stories.{end_at, end_of, from_place, BeginsWith}
-use Rattle.spelling.specs.Walking.{Told, Stopped, Walk, longest_stream, place_of, stopping, heeding, walk_step, walk}
-use Rattle.spelling.proofs.Begins.{Begins, begins}
+use Rattle.spelling.specs.Walking.{Told, Walk, longest_stream, place_of, stopping, heeding, walk_step, walk}
+use Rattle.spelling.proofs.Begins.{begins}
 use Rattle.spelling.proofs.Fronts.{Bytes}
 use Rattle.spelling.proofs.Spelt.{spelt}
 use Rattle.walking.proofs.Walks.{midst, between, telling, walk_append, walk_stopped, walk_more, walk_statement, walk_refused, start_midst, place_is, spelling_long}

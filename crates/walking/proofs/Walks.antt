@@ -1,17 +1,17 @@
 -- Reading a stream back, statement by statement.
-use Rattle.std.proofs.Common.{◌≡◌, ℕ, suc, ◌+◌, ◌-◌, ◌<◌, ◌≤◌, Bool, true, false, cond, leb, List, [], ◌∷◌, ◌++◌, length, get_or, take, drop, Some, None, Option, sym, refl, ap, ◌∙◌, subst, arith, length-append}
+use Rattle.std.proofs.Common.{◌≡◌, ℕ, ◌+◌, ◌-◌, ◌<◌, ◌≤◌, cond, List, [], ◌∷◌, ◌++◌, length, get_or, take, Some, None, sym, refl, ap, ◌∙◌, subst, arith, length-append}
 use Rattle.std.proofs.lemmas.List.{append-nil, append_assoc, take_all, take_more, length_push}
-use Rattle.std.proofs.lemmas.Bool.{le-leb, lt-leb}
+use Rattle.std.proofs.lemmas.Bool.{lt-leb}
 use Rattle.statement.specs.declared.types.Fault.{Fault}
 use Rattle.statement.specs.declared.types.Fault.TheVariants as fault
 use Rattle.statement.specs.declared.types.Standing.{Standing}
 use Rattle.statement.specs.declared.types.Standing.TheVariants.{Outside}
-use Rattle.statement.specs.Statements.{Said, allowed, onwards}
+use Rattle.statement.specs.Statements.{Said, onwards}
 use Rattle.statement.specs.Reading.{Shape, more, refused, whole, reading}
-use Rattle.spelling.specs.Spelling.{code_of, spell_arguments, spell, Lawful}
-use Rattle.spelling.specs.Walking.{Told, Stopped, Walk, longest_stream, start, place_of, stopping, heeding, going_on, walk_step, walk, read_back}
-use Rattle.spelling.specs.Laws.{Reads, Stand, spell_all, placed, standing_after, recited, StreamsReadBack}
-use Rattle.spelling.proofs.Settles.{Settled, reading_settles, stays_whole, stays_refused}
+use Rattle.spelling.specs.Spelling.{spell}
+use Rattle.spelling.specs.Walking.{Told, Stopped, Walk, longest_stream, place_of, stopping, heeding, going_on, walk_step, walk}
+use Rattle.spelling.specs.Laws.{Reads, Stand, spell_all, placed, standing_after, StreamsReadBack}
+use Rattle.spelling.proofs.Settles.{stays_whole, stays_refused}
 use Rattle.spelling.proofs.Arguments.{refused≢whole}
 use Rattle.spelling.proofs.Spelt.{spelt}
 

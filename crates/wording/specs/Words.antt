@@ -4,7 +4,6 @@ use Rattle.statement.specs.declared.layout.Trace.TheVariants as trace
 use Rattle.statement.specs.declared.layout.Aim.TheVariants as aim
 use Rattle.statement.specs.declared.layout.Manner.TheVariants as manner
 use Rattle.statement.specs.declared.layout.Setting.TheVariants as setting
-use Rattle.statement.specs.declared.layout.Bare.{Bare}
 use Rattle.statement.specs.declared.layout.Bare.TheVariants as bare
 use Rattle.statement.specs.declared.layout.Layout.{Layout}
 use Rattle.statement.specs.declared.layout.Layout.TheVariants as layout

@@ -1,18 +1,16 @@
 -- What a passed asking says.
-use Rattle.std.proofs.Common.{◌≡◌, ℕ, ◌+◌, ◌-◌, ◌<◌, ◌≤◌, Bool, true, false, cond, not, ltb, leb, List, length, is_some, Some, None, Ok, Err, Option, Result, sym, refl, ap, ◌∙◌, arith}
+use Rattle.std.proofs.Common.{◌≡◌, ℕ, ◌+◌, ◌-◌, ◌<◌, ◌≤◌, Bool, true, false, not, leb, List, length, is_some, Some, None, Ok, Option, refl, ap, ◌∙◌, arith}
 use Rattle.std.proofs.lemmas.Bool.{ltb-true, leb-true, not-true}
 use Rattle.statement.specs.declared.types.Fault.{Fault}
 use Rattle.statement.specs.declared.types.Fault.TheVariants as fault
-use Rattle.statement.specs.declared.types.Header.{Header}
-use Rattle.statement.specs.Statements.{Said, subhed}
+use Rattle.statement.specs.Statements.{Said}
 use Rattle.statement.specs.Reading.{is_name, header_of}
 use Rattle.spelling.specs.Spelling.{spell, first_of, unless, fault_of, Lawful}
-use Rattle.spelling.proofs.Spelt.{neither, not_one}
+use Rattle.spelling.proofs.Spelt.{neither}
 use Rattle.writer.specs.declared.types.Opened.{Opened}
-use Rattle.writer.specs.declared.types.Refusal.{Refusal}
 use Rattle.writer.specs.Bodies.{stays_short}
 use Rattle.writer.specs.Names.{is_one_too_many}
-use Rattle.writer.specs.Answers.{judged, leaves_one, frames, writing_fault, write_answer, header_in, heading, heading_fault, definition_answer}
+use Rattle.writer.specs.Answers.{judged, leaves_one, frames, writing_fault, write_answer, heading, heading_fault, definition_answer}
 
 pub record Passes (f : Option Fault) (fits free : Bool) : Type 0 where
   pub faultless : f ≡ None

@@ -1,5 +1,5 @@
 -- The names that are known to a writer.
-use Rattle.std.specs.Prelude.{ℕ, Bool, true, false, cond, not, ◌&&◌, ◌||◌, List, [], ◌∷◌, ◌++◌, map, length, take, nat_le}
+use Rattle.std.specs.Prelude.{ℕ, Bool, false, cond, not, ◌&&◌, ◌||◌, List, [], ◌∷◌, ◌++◌, map, length, take, nat_le}
 use Rattle.std.specs.Str.{bytes_eq}
 use Rattle.writer.specs.declared.types.Name.{Name}
 use Rattle.writer.specs.declared.types.Names.{Names}

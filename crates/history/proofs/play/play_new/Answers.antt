@@ -1,4 +1,4 @@
-use Rattle.std.proofs.Common.{◌≡◌, ◌∙◌}
+use Rattle.std.proofs.Common.{◌∙◌}
 use Rattle.history.proofs.Tales.{idle_same}
 use Rattle.history.proofs.Written.{written}
 use Rattle.writer.specs.Names.{known}

@@ -1,11 +1,10 @@
 use Rattle.std.proofs.Common.{◌≡◌, ◌+◌, [], length, get_or, drop, None, sym, refl, ap, ◌∙◌, inl, inr, arith}
 use Rattle.std.proofs.lemmas.List.{drop_all}
-use Rattle.statement.specs.Views.{said_by}
 use Rattle.spelling.specs.Spelling.{spell}
 use Rattle.history.specs.declared.operation.Operation.{Operation}
 use Rattle.history.specs.declared.operation.Operation.TheVariants.{Picture, Definition, Write, Close}
 use Rattle.writer.specs.Names.{known}
-use Rattle.writer.specs.Answers.{closing, passed}
+use Rattle.writer.specs.Answers.{closing}
 use Rattle.history.specs.Tales.{busy, idle, taken, book}
 use Rattle.history.proofs.Tales.{busy_same, idle_same, book_skip, book_write, book_close, book_end, book_from, one_closing}
 use Rattle.history.proofs.play.play_slip.Goals as goal

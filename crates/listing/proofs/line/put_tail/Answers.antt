@@ -1,4 +1,4 @@
-use Rattle.std.proofs.Common.{◌≡◌, ◌++◌, vec_items, codes, sym, ap, ◌∙◌}
+use Rattle.std.proofs.Common.{◌++◌, vec_items, codes, sym, ap, ◌∙◌}
 use Rattle.std.specs.Option.{option_map}
 use Rattle.statement.specs.Statements.{coded}
 use Rattle.statement.specs.Views.{bytes_of, tail_said}

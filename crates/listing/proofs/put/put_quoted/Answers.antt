@@ -1,7 +1,7 @@
 use Rattle.std.proofs.Common.{◌≡◌, ℕ, ◌+◌, ◌<◌, ◌≤◌, List, [], ◌∷◌, ◌++◌, length, get_or, take, vec_items, sym, ap, ◌∙◌}
 use Rattle.std.specs.List.{flat_map}
 use Rattle.std.proofs.lemmas.List.{flat_map_more, take_more, take_all}
-use Rattle.listing.specs.Lines.{quoted_byte, quoted}
+use Rattle.listing.specs.Lines.{quoted_byte}
 use Rattle.listing.proofs.Pieces.{made_then, then}
 use Rattle.listing.proofs.put.put_quoted.Goals as goal
 

@@ -1,4 +1,4 @@
-use Rattle.std.proofs.Common.{◌≡◌, [], ◌∷◌, ◌++◌, take, vec_items}
+use Rattle.std.proofs.Common.{◌≡◌, ◌++◌, take, vec_items}
 use Rattle.std.specs.List.{flat_map}
 use Rattle.listing.specs.Lines.{quoted_byte}
 use Rattle.listing.proofs.put.put_quoted.Given as goal

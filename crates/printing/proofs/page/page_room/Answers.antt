@@ -1,4 +1,4 @@
-use Rattle.std.proofs.Common.{sym, ap, ◌∙◌, arith}
+use Rattle.std.proofs.Common.{sym, ◌∙◌, arith}
 use Rattle.printing.proofs.Rows.{page_counted, small_page}
 use Rattle.printing.proofs.page.page_room.Goals as goal
 

@@ -1,4 +1,4 @@
-use Rattle.std.proofs.Common.{◌≡◌, ℕ, suc, sym, ap, ◌∙◌, arith}
+use Rattle.std.proofs.Common.{◌≡◌, suc, sym, ap, ◌∙◌, arith}
 use Rattle.std.proofs.lemmas.Bool.{and_left}
 use Rattle.geometry.specs.Lines.{steps_of, point_of}
 use Rattle.mark.specs.Covers.{line_inks, line_inks_at, inks_point, same_pixel}

@@ -1,4 +1,4 @@
-use Rattle.std.proofs.Common.{◌≡◌, Bool, ◌&&◌, ◌||◌, ℤ, sym, ap, ◌∙◌}
+use Rattle.std.proofs.Common.{◌&&◌, ◌||◌, ℤ, sym, ap, ◌∙◌}
 use Rattle.mark.specs.declared.Mark.{Mark}
 use Rattle.mark.specs.Covers.{reaches, on_sheet, same_pixel, line_inks}
 use Rattle.raster.specs.Bits.{inked_at}

@@ -1,4 +1,4 @@
-use Rattle.std.proofs.Common.{◌≡◌, ℤ, sym, ap, ◌∙◌, arith}
+use Rattle.std.proofs.Common.{◌≡◌, sym, ap, ◌∙◌, arith}
 use Rattle.std.proofs.lemmas.Bool.{and_left}
 use Rattle.mark.specs.Covers.{letter_inks_at, letter_dot, has_dot, same_pixel}
 use Rattle.raster.specs.Bits.{inked_at}

@@ -1,4 +1,4 @@
-use Rattle.std.proofs.Common.{◌≡◌, is_ok, ap, ◌∙◌, arith}
+use Rattle.std.proofs.Common.{is_ok, ap, ◌∙◌, arith}
 use Rattle.sheet.specs.Meanings.{marked}
 use Rattle.specimen_page.proofs.Turns.{next_letter, last_letter}
 use Rattle.specimen_page.proofs.drawing.draw_letters.Goals as goal

@@ -1,4 +1,4 @@
-use Rattle.std.proofs.Common.{◌≡◌, sym, arith}
+use Rattle.std.proofs.Common.{sym, arith}
 use Rattle.mark.proofs.Any.{some_at, none_more}
 use Rattle.specimen_page.specs.Rows.{inked_in}
 use Rattle.specimen_page.proofs.rows.bears_ink.Goals as goal

@@ -1,4 +1,4 @@
-use Rattle.std.proofs.Common.{◌≡◌, refl, ◌∙◌, arith}
+use Rattle.std.proofs.Common.{refl, ◌∙◌, arith}
 use Rattle.statement.specs.Views.{said_by}
 use Rattle.walking.proofs.Steps.{told_within, told_size, told_on, refused_step, open_step, long_step}
 use Rattle.walking.proofs.walker.Walker.stride.Goals as goal

@@ -1,6 +1,5 @@
-use Rattle.std.proofs.Common.{◌≡◌, ◌+◌, ◌<◌, length, sym, subst}
+use Rattle.std.proofs.Common.{◌+◌, ◌<◌, length, sym, subst}
 use Rattle.statement.specs.Statements.{Said}
-use Rattle.statement.specs.Views.{said_by}
 use Rattle.spelling.specs.Spelling.{spell, Lawful}
 use Rattle.writer.specs.Names.{known}
 use Rattle.writer.proofs.Judged.{heads}

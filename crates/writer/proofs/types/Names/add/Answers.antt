@@ -1,6 +1,6 @@
-use Rattle.std.proofs.Common.{◌≡◌, ◌<◌, ◌≤◌, true, false, cond, [], ◌∷◌, ◌++◌, map, length, take, sym, ap, ◌∙◌, arith, length-set}
+use Rattle.std.proofs.Common.{cond, [], ◌∷◌, ◌++◌, map, take, sym, ap, ◌∙◌, arith, length-set}
 use Rattle.std.proofs.lemmas.List.{take_more_set, map_push}
-use Rattle.writer.specs.Names.{letters, known, is_known}
+use Rattle.writer.specs.Names.{letters, known}
 use Rattle.writer.proofs.Fronts.{room_left}
 use Rattle.writer.proofs.types.Names.add.Goals as goal
 

@@ -1,4 +1,4 @@
-use Rattle.std.proofs.Common.{◌≡◌, ◌+◌, ◌≤◌, ◌||◌, length, sym, ap, ◌∙◌, arith}
+use Rattle.std.proofs.Common.{◌+◌, ◌≤◌, ◌||◌, length, sym, ap, ◌∙◌, arith}
 use Rattle.writer.proofs.Fronts.{from, from_here, from_end}
 use Rattle.writer.proofs.types.Names.has.Goals as goal
 
