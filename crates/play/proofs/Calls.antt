@@ -1,6 +1,6 @@
 -- Calls answered one after the other.
 use Rattle.std.proofs.Common.{◌≡◌, ℕ, ◌+◌, ◌<◌, List, [], ◌∷◌, ◌++◌, map, length, get_or, take, fold, sym, refl, ap, ◌∙◌}
-use Rattle.std.specs.List.{AllByRecursion as All}
+use Rattle.std.specs.List.{AllByRecursion}
 use Rattle.std.proofs.ByRecursion.{All-append}
 use Rattle.run.specs.Runs.{Config}
 use Rattle.run.specs.Cuttings.{Call, feed, finishing, reporting, answering, stream}
@@ -16,7 +16,7 @@ pub folded_calls : (c : Config) (ks : List Asked) → fold answering_of c ks ≡
 folded_calls c [] = refl
 folded_calls c (k ∷ ks) = folded_calls (answering_of c k) ks
 
-pub stream_bytes : (ks : List Asked) → All (λ k. HasBytes (call_of k)) ks → All (λ b. b < 256) (stream (calls_of ks))
+pub stream_bytes : (ks : List Asked) → AllByRecursion (λ k. HasBytes (call_of k)) ks → AllByRecursion (λ b. b < 256) (stream (calls_of ks))
 stream_bytes [] h = tt
 stream_bytes (asked.Feed p ∷ ks) h = All-append (λ b. b < 256) p.now (stream (calls_of ks)) h.0 (stream_bytes ks h.1)
 stream_bytes (asked.Finish ∷ ks) h = tt

@@ -1,6 +1,6 @@
 -- What calls end in, by what they come to.
 use Rattle.std.proofs.Common.{◌≡◌, ◌<◌, List, sym, ap, ◌∙◌}
-use Rattle.std.specs.List.{AllByRecursion as All}
+use Rattle.std.specs.List.{AllByRecursion}
 use Rattle.sheet.specs.Meanings.{Meaning}
 use Rattle.run.specs.declared.types.Report.{Report}
 use Rattle.run.specs.Runs.{Config, report_of}
@@ -34,7 +34,7 @@ module _ (c e : Config) (m n : Meaning) (r s : Report) (x : Ends c m r) (y : End
   same_drawn : SameDrawing c e → SameDrawn m n r s
   same_drawn h = record { page = same_page h.page; stock = same_stock h.stock; beam = ap (λ z. z.beam) x.report ∙ h.beam ∙ sym (ap (λ z. z.beam) y.report) }
 
-pub both_played : (m n : Meaning) (ks ls : List Asked) (m' n' : Meaning) (r s : Report) → Ends (comes_to m ks) m' r → Ends (comes_to n ls) n' s → All (λ b. b < 256) (stream_of ks)
+pub both_played : (m n : Meaning) (ks ls : List Asked) (m' n' : Meaning) (r s : Report) → Ends (comes_to m ks) m' r → Ends (comes_to n ls) n' s → AllByRecursion (λ b. b < 256) (stream_of ks)
     → PlayedBoth m n ks ls m' n' r s
 both_played m n ks ls m' n' r s x y b =
     let c = played m (calls_of ks) in

@@ -1,6 +1,6 @@
 -- Lists of calls, and what they come to.
 use Rattle.std.specs.Prelude.{◌≡◌, ℕ, ◌<◌, List, [], ◌∷◌, map}
-use Rattle.std.specs.List.{AllByRecursion as All}
+use Rattle.std.specs.List.{AllByRecursion}
 use Rattle.sheet.specs.Meanings.{Meaning}
 use Rattle.run.specs.declared.types.Report.{Report}
 use Rattle.run.specs.Runs.{Config, report_of, begun}
@@ -37,6 +37,6 @@ pub record Ends (c : Config) (m : Meaning) (r : Report) : Type 0 where
 
 -- what is fed is bytes
 abbrev pub HasBytes : Call → Type 0
-HasBytes (feed p) = All (λ b. b < 256) p
+HasBytes (feed p) = AllByRecursion (λ b. b < 256) p
 HasBytes finishing = Unit {0}
 HasBytes reporting = Unit {0}

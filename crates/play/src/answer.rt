@@ -1,6 +1,6 @@
 // Calls answered by a reader, one after the other.
 ghost use Rattle.std.specs.Prelude.{◌≡◌, ◌<◌, fold};
-ghost use Rattle.std.specs.List.{AllByRecursion as All};
+ghost use Rattle.std.specs.List.{AllByRecursion};
 ghost use Rattle.run.specs.Runs.{run, report_of};
 ghost use Rattle.run.specs.Cuttings.{answering};
 ghost use Rattle.reader.specs.Views.{config_of};
@@ -14,7 +14,7 @@ use sheet::Sheet;
 // Feeds a piece.
 fn feed_piece<S: Sheet>(reader: &mut Reader, sheet: &mut S, piece: &[u8])
     ensures after { config_of reader.new (S.meaning sheet.new) ≡ run (config_of reader.old (S.meaning sheet.old)) piece.now }
-    ensures bytes { All (λ b. b < 256) piece.now }
+    ensures bytes { AllByRecursion (λ b. b < 256) piece.now }
     ensures tied { S.tied sheet.new ≡ S.tied sheet.old }
 {
     let _ = reader.feed(sheet, piece);
@@ -40,7 +40,7 @@ fn answer<S: Sheet>(reader: &mut Reader, sheet: &mut S, call: Call<'_>)
 // Answers one call after the other; what the calls answer is let go.
 fn answer_all<S: Sheet>(reader: &mut Reader, sheet: &mut S, calls: &[Call<'_>])
     ensures after { config_of reader.new (S.meaning sheet.new) ≡ fold answering (config_of reader.old (S.meaning sheet.old)) (calls_of calls.now) }
-    ensures bytes { All (λ b. b < 256) (stream_of calls.now) }
+    ensures bytes { AllByRecursion (λ b. b < 256) (stream_of calls.now) }
     ensures tied { S.tied sheet.new ≡ S.tied sheet.old }
 {
     for call in calls {
@@ -53,7 +53,7 @@ pub fn play_with<S: Sheet>(reader: &mut Reader, sheet: &mut S, calls: &[Call<'_>
     ensures after { config_of reader.new (S.meaning sheet.new) ≡ fold answering (config_of reader.old (S.meaning sheet.old)) (calls_of calls.now) }
     ensures report { result ≡ report_of (config_of reader.new (S.meaning sheet.new)) }
     ensures played { New reader.old → Ends (comes_to (S.meaning sheet.old) calls.now) (S.meaning sheet.new) result }
-    ensures bytes { All (λ b. b < 256) (stream_of calls.now) }
+    ensures bytes { AllByRecursion (λ b. b < 256) (stream_of calls.now) }
     ensures tied { S.tied sheet.new ≡ S.tied sheet.old }
 {
     answer_all(reader, sheet, calls);

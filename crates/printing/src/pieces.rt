@@ -1,7 +1,7 @@
 // Lines of texts and numbers.
 ghost use Rattle.std.specs.Prelude.{◌≡◌, ◌+◌, ◌≤◌, length, decimal};
 ghost use Rattle.std.proofs.lemmas.List.Edits.{sets};
-ghost use Rattle.std.specs.List.{AllByRecursion as All};
+ghost use Rattle.std.specs.List.{AllByRecursion};
 ghost use Rattle.std.specs.Fmt.{signed_decimal};
 ghost use Rattle.printing.specs.Lines.{Short, piece_text, line_text};
 
@@ -45,7 +45,7 @@ fn extent(piece: Piece) -> usize
 
 // How many bytes a line takes.
 pub(crate) fn line_room(pieces: &[Piece]) -> usize
-    requires short { All Short pieces.now }
+    requires short { AllByRecursion Short pieces.now }
     requires few { length pieces.now ≤ 100 }
     ensures value { result ≡ length (line_text pieces.now) }
     ensures bound { result ≤ 2100 }

@@ -1,6 +1,6 @@
 // What is printed of a page and a report.
 ghost use Rattle.std.specs.Prelude.{◌≡◌, ℕ, ◌≤◌, List, ◌++◌, length};
-ghost use Rattle.std.specs.List.{AllByRecursion as All};
+ghost use Rattle.std.specs.List.{AllByRecursion};
 ghost use Rattle.sheet.specs.Meanings.{Meaning};
 ghost use Rattle.printing.specs.Lines.{Short, line_text};
 ghost use Rattle.printing.specs.Pages.{page_text};
@@ -23,7 +23,7 @@ const NOWHERE: Spot = Spot {
 // The pieces of a report's line, with this fault.
 fn pieces_of(report: &Report, number: usize, place: usize, spot: Spot) -> [Piece; 19]
     ensures text { line_text result ≡ line_of report.now number place spot }
-    ensures short { All Short result }
+    ensures short { AllByRecursion Short result }
 {
     [
         Piece::Text(b"read "),
@@ -51,7 +51,7 @@ fn pieces_of(report: &Report, number: usize, place: usize, spot: Spot) -> [Piece
 // The pieces of a report's line.
 fn report_pieces(report: &Report) -> [Piece; 19]
     ensures text { line_text result ≡ report_line report.now }
-    ensures short { All Short result }
+    ensures short { AllByRecursion Short result }
 {
     match report.life {
         Life::Live | Life::Closed => pieces_of(report, 0, 0, NOWHERE),

@@ -1,6 +1,6 @@
 -- Recorded bodies are whole lawful statements.
 use Rattle.std.specs.Prelude.{◌≡◌, ℕ, ◌<◌, List, [], ◌∷◌, ◌++◌}
-use Rattle.std.specs.List.{AllByRecursion as All}
+use Rattle.std.specs.List.{AllByRecursion}
 use Rattle.sheet.specs.Meanings.{Meaning}
 use Rattle.statement.specs.Statements.{Act, act}
 use Rattle.spelling.specs.Spelling.{spell, Lawful}
@@ -30,4 +30,4 @@ WholeSoFar (defining w n h bs) = Whole bs
 
 -- every body that a run has, and what it has recorded of the next, is whole lawful statements
 abbrev pub BodiesWhole : Type 0
-BodiesWhole = (m : Meaning) (bs : List ℕ) → All (λ b. b < 256) bs → AllWhole (run (begun m) bs).drawing.table × WholeSoFar (run (begun m) bs).drawing.stance
+BodiesWhole = (m : Meaning) (bs : List ℕ) → AllByRecursion (λ b. b < 256) bs → AllWhole (run (begun m) bs).drawing.table × WholeSoFar (run (begun m) bs).drawing.stance

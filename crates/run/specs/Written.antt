@@ -1,6 +1,6 @@
 -- A simple call may be written out: MOVEA to its AT point, if any, then the body, if any, that its name has at that moment.
 use Rattle.std.specs.Prelude.{◌≡◌, ℕ, ◌<◌, Bool, true, false, List, [], ◌∷◌, ◌++◌, ℤ, Some, None, Option}
-use Rattle.std.specs.List.{AllByRecursion as All}
+use Rattle.std.specs.List.{AllByRecursion}
 use Rattle.sheet.specs.Meanings.{Meaning}
 use Rattle.statement.specs.declared.layout.Trace.TheVariants.{Blank}
 use Rattle.statement.specs.declared.layout.Aim.TheVariants.{Absolute}
@@ -67,5 +67,5 @@ pub record SameDrawing (c e : Config) : Type 0 where
 -- if neither stream is refused, every cutting of either, with or without a finish, from alike meanings, draws the same
 abbrev pub WritesAlike : Type 0
 WritesAlike =
-    (m n : Meaning) (ks ls : List Call) → m ≡ n → All (λ b. b < 256) (stream ks) → Written (begun m) (stream ks) (stream ls)
+    (m n : Meaning) (ks ls : List Call) → m ≡ n → AllByRecursion (λ b. b < 256) (stream ks) → Written (begun m) (stream ks) (stream ls)
     → NotRefused (run (begun m) (stream ks)) → NotRefused (run (begun n) (stream ls)) → SameDrawing (played m ks) (played n ls)

@@ -1,7 +1,7 @@
 -- Counts and strings: what is found at the front of bytes is spelt there, and what is spelt there is found.
 use Rattle.std.proofs.Common.{◌≡◌, ℕ, suc, ◌+◌, ◌-◌, ◌*◌, ◌/◌, ◌%◌, ◌<◌, ◌≤◌, Bool, true, false, cond, ltb, List, [], ◌∷◌, ◌++◌, length, take, drop, sym, refl, ap, ◌∙◌, subst, div-add-mod', arith, length-append, w16, of_z}
 use lib.Arith.{digits_div, digits_mod}
-use Rattle.std.specs.List.{AllByRecursion as All}
+use Rattle.std.specs.List.{AllByRecursion}
 use Rattle.std.proofs.lemmas.List.{append_assoc, take-append-drop, length-take-le, take_at, drop_at}
 use Rattle.std.proofs.lemmas.Int.{of_z-to_z}
 use Rattle.std.proofs.lemmas.Bool.{ltb-false, le-ltb}
@@ -11,7 +11,7 @@ use Rattle.statement.specs.Reading.{Front, wanting, wrong, found, long_count, co
 use Rattle.spelling.specs.Spelling.{spell_count, spell_string, spell_pair}
 
 abbrev pub Bytes : List ℕ → Type 0
-Bytes xs = All (λ b. b < 256) xs
+Bytes xs = AllByRecursion (λ b. b < 256) xs
 
 -- as long, and the same where they are bytes
 abbrev pub Matches : List ℕ → List ℕ → Type 0

@@ -1,6 +1,6 @@
 -- The laws of spelling and reading.
 use Rattle.std.specs.Prelude.{◌≡◌, ℕ, ◌+◌, ◌<◌, ◌≤◌, true, List, [], ◌∷◌, ◌++◌, length, take, None}
-use Rattle.std.specs.List.{AllByRecursion as All}
+use Rattle.std.specs.List.{AllByRecursion}
 use Rattle.statement.specs.declared.types.Standing.{Standing}
 use Rattle.statement.specs.declared.types.Standing.TheVariants.{Outside}
 use Rattle.statement.specs.Statements.{Said, allowed, onwards}
@@ -19,7 +19,7 @@ Spelt = (st : Standing) (s : Said) → Lawful s → allowed st (code_of s) ≡ t
 
 -- whatever bytes read as a statement are its spelling, and it is lawful and allowed there
 abbrev pub SpeltOnce : Type 0
-SpeltOnce = (st : Standing) (bs : List ℕ) (s : Said) → All (λ b. b < 256) bs → Reads st bs s → (bs ≡ spell s) × Lawful s × (allowed st (code_of s) ≡ true)
+SpeltOnce = (st : Standing) (bs : List ℕ) (s : Said) → AllByRecursion (λ b. b < 256) bs → Reads st bs s → (bs ≡ spell s) × Lawful s × (allowed st (code_of s) ≡ true)
 
 -- statements that are lawful and allowed where they stand, one after the other
 abbrev pub Stand : Standing → List Said → Type 0

@@ -1,7 +1,7 @@
 -- Things found in tables, and what comes of them.
 use Rattle.std.proofs.Common.{◌≡◌, ℕ, Bool, true, false, cond, List, [], ◌∷◌, ◌++◌, Some, None, Option, sym, refl, ap, ◌∙◌, arith}
 use Rattle.std.specs.Option.{option_or}
-use Rattle.std.specs.List.{AllByRecursion as All}
+use Rattle.std.specs.List.{AllByRecursion}
 use Rattle.std.proofs.lemmas.Slice.Eq.{bytes_eq-Decides}
 use Rattle.std.specs.Str.{bytes_eq}
 use Rattle.wording.specs.Texts.{given, entry}
@@ -25,7 +25,7 @@ pub same : {A : Type 0} (a b : A) → Some a ≡ Some b → a ≡ b
 same a b e = cc
 
 -- a table of names, in which each thing stands under its own
-pub entry_named : {A : Type 0} (name : A → List ℕ) (es : List (List ℕ × A)) → All (λ e. name e.1 ≡ e.0) es → (n : List ℕ) (a : A) → entry es n ≡ Some a → name a ≡ n
+pub entry_named : {A : Type 0} (name : A → List ℕ) (es : List (List ℕ × A)) → AllByRecursion (λ e. name e.1 ≡ e.0) es → (n : List ℕ) (a : A) → entry es n ≡ Some a → name a ≡ n
 entry_named name [] all n a e = let z : ◌≡◌ {A = ℕ} 0 1 = cc in absurd (omega arith)
 entry_named {A} name (x ∷ es) all n a e = go (bytes_eq x.0 n) refl e (entry_named name es all.1 n a)
   where

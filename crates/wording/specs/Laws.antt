@@ -1,7 +1,7 @@
 -- The laws of words and statements.
 use Rattle.std.specs.Prelude.{◌≡◌, ℕ, ◌<◌, List, ℤ, Some, None, Option, ◌≢◌}
 use Rattle.std.specs.Int.Signed.{mag}
-use Rattle.std.specs.List.{AllByRecursion as All}
+use Rattle.std.specs.List.{AllByRecursion}
 use Rattle.statement.specs.Statements.{CallTail, empty, coded, Plain, null, travel, letters, escape, assign, mark, movemk, drawmk, Act, plain, call, Said, erase, endpic, subhed, subend, act}
 use Rattle.spelling.specs.Spelling.{Lawful}
 use Rattle.wording.specs.Words.{words, worded}
@@ -11,14 +11,14 @@ abbrev pub WordsOnly : Type 0
 WordsOnly = (line : List ℕ) (s : Said) → worded line ≡ Some s → words s ≡ line
 
 abbrev pub AreBytes : List ℕ → Type 0
-AreBytes bs = All (λ b. b < 256) bs
+AreBytes bs = AllByRecursion (λ b. b < 256) bs
 
 -- from -32768 to 32767
 abbrev pub Is16Bits : ℤ → Type 0
 Is16Bits z = mag z < 32768
 
 abbrev pub Spaceless : List ℕ → Type 0
-Spaceless n = All (λ c. c ≢ 32) n
+Spaceless n = AllByRecursion (λ c. c ≢ 32) n
 
 abbrev pub AsWordable : Option (List ℕ) → Type 0
 AsWordable None = Unit {0}

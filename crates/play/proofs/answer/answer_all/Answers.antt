@@ -1,5 +1,5 @@
 use Rattle.std.proofs.Common.{◌≡◌, List, [], get_or, take, fold, sym, ap, ◌∙◌, subst, take_all}
-use Rattle.std.specs.List.{AllByRecursion as All}
+use Rattle.std.specs.List.{AllByRecursion}
 use Rattle.std.proofs.ByRecursion.{All-more}
 use Rattle.std.proofs.lemmas.List.Sums.{fold_more}
 use Rattle.run.specs.Runs.{Config}
@@ -30,6 +30,6 @@ returns g c =
     let e = take_all c.loop-call.call-index ks c.loop-call-test.false in
     record {
       after = c.loop-call.invariant.0 ∙ ap (fold answering_of first) e ∙ folded_calls first ks;
-      bytes = stream_bytes ks (subst (All (λ k. HasBytes (call_of k))) e c.loop-call.invariant.1);
+      bytes = stream_bytes ks (subst (AllByRecursion (λ k. HasBytes (call_of k))) e c.loop-call.invariant.1);
       tied = c.loop-call.invariant.2;
     }

@@ -1,5 +1,5 @@
 use Rattle.std.proofs.Common.{◌≡◌, take, fold}
-use Rattle.std.specs.List.{AllByRecursion as All}
+use Rattle.std.specs.List.{AllByRecursion}
 use Rattle.reader.specs.Views.{config_of}
 use Rattle.play.specs.Plays.{call_of, HasBytes}
 use Rattle.play.proofs.Calls.{answering_of}
@@ -9,5 +9,5 @@ abbrev pub invariant-loop-call : goal.invariant-loop-call
 invariant-loop-call g l =
     let m = g.S.Sheet.meaning in
     (config_of l.reader (m l.sheet) ≡ fold answering_of (config_of l.initial.reader (m l.initial.sheet)) (take l.call-index l.calls))
-    × All (λ k. HasBytes (call_of k)) (take l.call-index l.calls)
+    × AllByRecursion (λ k. HasBytes (call_of k)) (take l.call-index l.calls)
     × (g.S.Sheet.tied l.sheet ≡ g.S.Sheet.tied l.initial.sheet)
