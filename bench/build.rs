@@ -1,4 +1,4 @@
-//! Links the proved reader: the static library that `rt staticlib exported` writes, and the kit's C code.
+//! Links the proved reader: the static library that `rt lib` writes in the crate `exported`, and the kit's C code.
 
 use std::path::PathBuf;
 use std::process::Command;
