@@ -4,7 +4,7 @@ ghost use Rattle.std.specs.Borrow.{sem, follows};
 ghost use Rattle.std.specs.Vec.{with_item};
 ghost use Rattle.run.specs.Performing.{find as found};
 ghost use Rattle.run.specs.Runs.{is_absent, is_full};
-ghost use Rattle.calls.specs.contracts.types.Definition.{the_row as definition-row};
+ghost use Rattle.calls.specs.contracts.types.Definition.{the_row as definition_row};
 ghost use Rattle.calls.specs.contracts.types.Table.{the_row};
 ghost use Rattle.calls.specs.Tables.{letters_of, entry_of, entries_of, place_from, stored_in};
 
@@ -97,7 +97,7 @@ impl Table {
     // One entry, to be written.
     fn slot(&mut self, at: usize) -> &mut Definition
         requires { at < vec_len self.old.entries }
-        ensures* { sem 𝓛 (follows the_row definition-row self.entry.ghost_name result.ghost_name (λ w. record { entries = with_item self.old.entries at w; room = self.old.room; few = self.old.few })) }
+        ensures* { sem 𝓛 (follows the_row definition_row self.entry.ghost_name result.ghost_name (λ w. record { entries = with_item self.old.entries at w; room = self.old.room; few = self.old.few })) }
     {
         &mut self.entries[at]
     }
