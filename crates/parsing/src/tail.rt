@@ -60,7 +60,7 @@ fn read_as_name(at: usize, bytes: &[u8]) -> Option<(Part<'_>, &[u8])>
 
 // The tail that follows its code byte, if it fits exactly; `at` is the place of the code byte in the statement.
 fn coded_tail(at: usize, code: u8, rest: &[u8]) -> Option<Tail<'_>>
-    requires { at ≤ 16 }
+    requires { at ≤ 31 }
     ensures value { option_map tail_said result ≡ coded_tail code rest.now }
     ensures parts { (bs : List ℕ) → take (length rest.now) (drop (at + 1) bs) ≡ rest.now → TailPartsBy result at bs }
 {
