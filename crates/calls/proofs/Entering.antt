@@ -1,7 +1,6 @@
 -- What performing a statement comes to, test by test.
-use Rattle.std.proofs.Common.{◌≡◌, ℕ, zero, suc, ◌+◌, ◌-◌, ◌<◌, ◌≤◌, Bool, true, false, cond, ◌||◌, leb, List, [], ◌∷◌, ◌++◌, length, take, Some, None, Option, sym, refl, ap, ◌∙◌, arith, length-take, rules, le-leb, leb-false, leb-true}
+use Rattle.std.proofs.Common.{◌≡◌, ℕ, zero, suc, ◌+◌, ◌-◌, ◌<◌, ◌≤◌, Bool, true, false, cond, leb, List, [], ◌∷◌, ◌++◌, length, Some, None, Option, sym, refl, ap, ◌∙◌, arith, length-take, rules, leb-false, leb-true}
 use lib.ListN.{length-map}
-use borrow.Author.Tests.{lt-leb}
 use Rattle.std.proofs.lemmas.Slice.Eq.{compares_Decides, IsBytesEq}
 use Rattle.statement.specs.declared.types.Fault.TheVariants as unread
 use Rattle.statement.specs.declared.types.Part.{Part}
@@ -18,7 +17,7 @@ use Rattle.run.specs.Performing.{Out, done, failed, out_of, Entry, same_bytes, f
 use Rattle.pen.specs.Views.{plain_effect}
 use Rattle.calls.specs.declared.opened.OpenNames.{OpenNames}
 use Rattle.calls.specs.Outcomes.{is_act, perform_said, hindrance}
-use Rattle.calls.specs.Tables.{letters_of, open_of}
+use Rattle.calls.specs.Tables.{open_of}
 
 -- as many names are open as the count says
 pub open_count : (o : OpenNames) → length (open_of o) ≡ o.used

@@ -1,6 +1,5 @@
 -- Looking a name up, among the open names and in the table.
-use Rattle.std.proofs.Common.{◌≡◌, ℕ, suc, ◌+◌, ◌<◌, ◌≤◌, Bool, true, false, cond, ◌||◌, List, [], ◌∷◌, ◌++◌, map, length, get_or, take, drop, set, Some, None, vec_len, vec_capacity, Vec, sym, refl, ap, ◌∙◌, add-one, arith, length-take, drop-cons}
-use mathlib.Core.List.{map-append}
+use Rattle.std.proofs.Common.{◌≡◌, ℕ, suc, ◌+◌, ◌<◌, ◌≤◌, true, false, cond, ◌||◌, List, [], ◌∷◌, map, length, get_or, drop, Some, None, vec_len, vec_capacity, Vec, sym, ap, ◌∙◌, add-one, drop-cons}
 use lib.ListN.{length-map}
 use Rattle.std.proofs.lemmas.List.{get_or-map, drop_all}
 use Rattle.run.specs.Performing.{Entry, same_bytes, is_among}

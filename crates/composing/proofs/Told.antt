@@ -8,7 +8,7 @@ use Rattle.spelling.specs.Spelling.{header_byte}
 use Rattle.spelling.specs.Laws.{standing_after}
 use Rattle.writer.specs.declared.types.Opened.{Opened}
 use Rattle.writer.specs.declared.types.Refusal.{Refusal}
-use Rattle.writer.specs.Answers.{write_answer, heading, closing}
+use Rattle.writer.specs.Answers.{write_answer, heading}
 use Rattle.writer.proofs.Judged.{writes, heads}
 use Rattle.history.specs.Tales.{State, after}
 use Rattle.history.proofs.Accepts.{standing_of, Goes, goes_write, goes_heading, goes_picture, goes_close, Told, ending_told, goes_told}

@@ -3,7 +3,7 @@ use Rattle.std.specs.Prelude.{◌≡◌, ℕ, ◌+◌, Bool, true, false, cond, 
 use Rattle.std.proofs.lemmas.List.Edits.{sets}
 use Rattle.statement.specs.declared.types.Fault.TheVariants as fault
 use Rattle.statement.specs.Statements.{Said, erase, endpic, subhed, subend, act}
-use Rattle.spelling.specs.Spelling.{spell, header_byte}
+use Rattle.spelling.specs.Spelling.{header_byte}
 use Rattle.spelling.specs.Laws.{spell_all}
 use Rattle.writer.specs.declared.types.Opened.{Opened}
 use Rattle.writer.specs.declared.types.Opened.TheVariants as opened

@@ -1,9 +1,9 @@
 -- Calls answered one after the other.
-use Rattle.std.proofs.Common.{◌≡◌, ℕ, ◌+◌, ◌<◌, List, [], ◌∷◌, ◌++◌, map, length, get_or, take, fold, sym, refl, ap, ◌∙◌}
+use Rattle.std.proofs.Common.{◌≡◌, ◌<◌, List, [], ◌∷◌, fold, refl}
 use Rattle.std.specs.List.{AllByRecursion}
 use Rattle.std.proofs.ByRecursion.{All-append}
 use Rattle.run.specs.Runs.{Config}
-use Rattle.run.specs.Cuttings.{Call, feed, finishing, reporting, answering, stream}
+use Rattle.run.specs.Cuttings.{answering, stream}
 use Rattle.play.specs.declared.list.Call.{Call as Asked}
 use Rattle.play.specs.declared.list.Call.TheVariants as asked
 use Rattle.play.specs.Plays.{call_of, calls_of, HasBytes}

@@ -1,5 +1,5 @@
 -- Lists of calls, and what they come to.
-use Rattle.std.specs.Prelude.{◌≡◌, ℕ, ◌<◌, List, [], ◌∷◌, map}
+use Rattle.std.specs.Prelude.{◌≡◌, ℕ, ◌<◌, List, map}
 use Rattle.std.specs.List.{AllByRecursion}
 use Rattle.sheet.specs.Meanings.{Meaning}
 use Rattle.run.specs.declared.types.Report.{Report}

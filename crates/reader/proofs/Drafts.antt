@@ -1,19 +1,16 @@
 -- Definitions recorded and ended.
-use Rattle.std.proofs.Common.{◌≡◌, ℕ, ◌+◌, ◌≤◌, Bool, true, false, cond, not, leb, List, [], ◌∷◌, ◌++◌, length, take, Ok, Err, sym, refl, ap, ◌∙◌, arith, length-append, le-leb}
-use borrow.Author.Tests.{lt-leb, not-true}
-use Rattle.std.proofs.lemmas.List.{length-take-le}
+use Rattle.std.proofs.Common.{◌≡◌, ℕ, ◌≤◌, Bool, true, cond, List, [], ◌++◌, length, sym, refl, ap, ◌∙◌, arith, le-leb}
+use borrow.Author.Tests.{lt-leb}
 use Rattle.sheet.specs.Meanings.{Meaning}
-use Rattle.statement.specs.declared.types.Header.{Header}
 use Rattle.statement.specs.declared.types.Home.{Home}
 use Rattle.statement.specs.declared.types.Home.TheVariants as home
-use Rattle.statement.specs.declared.types.Standing.{Standing}
 use Rattle.statement.specs.declared.types.Standing.TheVariants.{Definition}
 use Rattle.statement.specs.Statements.{homeward}
 use Rattle.run.specs.declared.types.Fault.TheVariants as fault
 use Rattle.run.specs.declared.types.Life.TheVariants.{Live}
 use Rattle.run.specs.Performing.{Entry}
-use Rattle.run.specs.Runs.{Stance, Drawing, Turn, stance_as, refusing, recording, closing, home_stance, keeps, store, is_full}
-use Rattle.calls.specs.Tables.{letters_of, entries_of, entry_of, stored_in}
+use Rattle.run.specs.Runs.{Stance, Turn, stance_as, refusing, recording, home_stance, keeps}
+use Rattle.calls.specs.Tables.{letters_of, entry_of}
 use Rattle.reader.specs.declared.state.State.{State}
 use Rattle.reader.specs.Recording.{longer}
 use Rattle.reader.specs.Stances.{stance_of, has_room, defining_as}

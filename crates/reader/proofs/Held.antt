@@ -1,5 +1,5 @@
 -- A statement of which more is wanted has at most 515 bytes.
-use Rattle.std.proofs.Common.{◌≡◌, ℕ, zero, suc, ◌+◌, ◌-◌, ◌*◌, ◌<◌, ◌≤◌, Bool, true, false, cond, ◌&&◌, eqb, ltb, List, [], ◌∷◌, length, take, drop, ℤ, Some, None, Option, refl, arith, length-drop, length-take, ltb-false, ltb-true}
+use Rattle.std.proofs.Common.{◌≡◌, ℕ, ◌+◌, ◌-◌, ◌*◌, ◌≤◌, Bool, true, false, cond, ◌&&◌, eqb, ltb, List, [], ◌∷◌, length, take, drop, Some, None, Option, refl, arith, length-drop, length-take, ltb-false, ltb-true}
 use borrow.Author.Tests.{clash}
 use Rattle.statement.specs.declared.layout.Layout.{Layout}
 use Rattle.statement.specs.declared.layout.Layout.TheVariants as layout
@@ -11,7 +11,7 @@ use Rattle.statement.specs.declared.types.Fault.TheVariants as fault
 use Rattle.statement.specs.declared.types.Header.{Header}
 use Rattle.statement.specs.declared.types.Standing.{Standing}
 use Rattle.statement.specs.Statements.{CallTail, Said, act, plain, call, letters, travel, subhed, layout_of, allowed}
-use Rattle.statement.specs.Reading.{Shape, more, refused, whole, Front, wanting, wrong, found, onto, long_count, count, measured, string, texted, escaped, travelled, pair, titled, headed, heading, header_of, lawful_tail, is_name, named_tail, is_text, tailed, tail_of, calling, arguments, admitted, reading, lawful, coordinate}
+use Rattle.statement.specs.Reading.{Shape, more, refused, whole, Front, wanting, wrong, found, onto, long_count, count, measured, string, texted, escaped, pair, titled, headed, heading, header_of, lawful_tail, is_name, named_tail, is_text, tailed, tail_of, calling, arguments, admitted, reading, lawful, coordinate}
 use Rattle.reader.specs.Held.{is_more}
 
 -- false is not true

@@ -1,10 +1,9 @@
 -- The name of a definition, as it is read, has at most 8 bytes.
-use Rattle.std.proofs.Common.{◌≡◌, ℕ, ◌+◌, ◌-◌, ◌*◌, ◌<◌, ◌≤◌, Bool, true, false, cond, ◌&&◌, eqb, ltb, List, [], ◌∷◌, length, take, drop, Some, None, Option, sym, refl, subst, arith, length-take, ltb-false, ltb-true}
+use Rattle.std.proofs.Common.{◌≡◌, ℕ, ◌≤◌, Bool, true, false, cond, ◌&&◌, eqb, ltb, List, [], ◌∷◌, length, take, drop, Some, None, Option, sym, subst, arith, length-take, ltb-false}
 use Rattle.statement.specs.declared.layout.Bare.{Bare}
 use Rattle.statement.specs.declared.layout.Bare.TheVariants as bare
 use Rattle.statement.specs.declared.layout.Layout.{Layout}
 use Rattle.statement.specs.declared.layout.Layout.TheVariants as layout
-use Rattle.statement.specs.declared.layout.Manner.{Manner}
 use Rattle.statement.specs.declared.layout.Trace.{Trace}
 use Rattle.statement.specs.declared.layout.Aim.{Aim}
 use Rattle.statement.specs.declared.types.Fault.{Fault}

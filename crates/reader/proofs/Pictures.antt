@@ -1,5 +1,5 @@
 -- A byte finishes at most one picture.
-use Rattle.std.proofs.Common.{◌≡◌, ℕ, ◌+◌, ◌≤◌, cond, leb, List, [], ◌++◌, length, arith}
+use Rattle.std.proofs.Common.{ℕ, ◌+◌, ◌≤◌, leb, List, [], ◌++◌, length, arith}
 use Rattle.statement.specs.declared.types.Header.{Header}
 use Rattle.statement.specs.declared.types.Home.{Home}
 use Rattle.statement.specs.declared.types.Home.TheVariants as home

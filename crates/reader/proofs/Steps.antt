@@ -1,5 +1,5 @@
 -- One byte more.
-use Rattle.std.proofs.Common.{◌≡◌, ℕ, ◌+◌, ◌-◌, ◌<◌, ◌≤◌, Bool, true, false, cond, List, [], ◌∷◌, ◌++◌, length, take, set, sym, refl, ap, ◌∙◌, arith, length-set, le-leb}
+use Rattle.std.proofs.Common.{◌≡◌, ℕ, ◌+◌, ◌-◌, ◌<◌, ◌≤◌, Bool, cond, List, length, take, set, sym, refl, ap, ◌∙◌, arith, length-set, le-leb}
 use borrow.Author.Tests.{lt-leb}
 use Rattle.std.proofs.lemmas.List.{length-take-le, take_more_set}
 use Rattle.sheet.specs.Meanings.{Meaning}
@@ -13,7 +13,6 @@ use Rattle.run.specs.Runs.{Turn, Config, standing_of, step_live, step, heeding, 
 use Rattle.reader.specs.declared.reader.Reader.{Reader}
 use Rattle.reader.specs.Stances.{stance_of}
 use Rattle.reader.specs.Views.{stance_in, drawing_of, settled_as, config_of}
-use Rattle.reader.specs.Held.{is_more}
 use Rattle.reader.specs.declared.settle.Settled.{Settled}
 use Rattle.reader.specs.declared.state.State.{State}
 use Rattle.reader.proofs.Held.{few_held}

@@ -1,5 +1,5 @@
 -- Where a reader stands.
-use Rattle.std.specs.Prelude.{ℕ, Bool, true, false, not, List}
+use Rattle.std.specs.Prelude.{ℕ, Bool, true, not, List}
 use Rattle.statement.specs.declared.types.Home.{Home}
 use Rattle.statement.specs.declared.types.Standing.{Standing}
 use Rattle.statement.specs.declared.types.Standing.TheVariants as standing

@@ -37,10 +37,10 @@ impl Writer<'_> {
     }
 }
 
-// A slip is closed, never let go.
+// A slip is closed, never let go: only one with nothing written before it or by it might be, and opening writes.
 impl Drop for Slip<'_> {
     fn drop(self)
-        requires { ⊥ }
+        requires { self.used ≡ 0 }
     {
         let Slip {
             buffer: _,

@@ -1,8 +1,6 @@
-use Rattle.std.proofs.Common.{◌≡◌, ℕ, ◌+◌, ◌-◌, ◌<◌, ◌≤◌, true, length, vec_items, sym, refl, ap, ◌∙◌, arith, rules}
+use Rattle.std.proofs.Common.{◌+◌, ◌-◌, ◌<◌, length, vec_items, sym, refl, ap, ◌∙◌, arith, rules}
 use Rattle.std.proofs.lemmas.Result.{err_from_is_err_and}
 use Rattle.statement.specs.Views.{said_by, bytes_of, tail_said}
-use Rattle.run.specs.Inks.{Ink}
-use Rattle.run.specs.Performing.{Out, failed, play, perform}
 use Rattle.pen.specs.Views.{ink_of}
 use Rattle.sheet.specs.Meanings.{Meaning}
 use Rattle.calls.specs.Tables.{open_of, entry_of, entries_of}

@@ -1,4 +1,4 @@
-use Rattle.std.proofs.Common.{◌≡◌, sym, ◌∙◌, rules}
+use Rattle.std.proofs.Common.{sym, ◌∙◌}
 use Rattle.calls.specs.Tables.{entry_of, open_of}
 use Rattle.calls.proofs.Entering.{no_hindrance}
 use Rattle.calls.proofs.steps.enter.Goals as goal

@@ -1,4 +1,4 @@
-use Rattle.std.proofs.Common.{◌≡◌, length, None, sym, ap, ◌∙◌, arith}
+use Rattle.std.proofs.Common.{◌≡◌, None, sym, ap, ◌∙◌, arith}
 use Rattle.writer.specs.Names.{known}
 use Rattle.history.specs.Tales.{idle}
 use Rattle.composing.specs.Lines.{lines_of}

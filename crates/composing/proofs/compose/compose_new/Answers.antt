@@ -1,5 +1,4 @@
-use Rattle.std.proofs.Common.{◌≡◌, [], length, None, ◌∙◌}
-use Rattle.writer.specs.Names.{known}
+use Rattle.std.proofs.Common.{◌≡◌, [], None, ◌∙◌}
 use Rattle.history.specs.Tales.{idle}
 use Rattle.composing.specs.Lines.{lines_of}
 use Rattle.composing.specs.Composed.{end_ledger, on_ledger}

@@ -1,4 +1,4 @@
-use Rattle.std.proofs.Common.{◌≡◌, ◌+◌, ◌-◌, ◌<◌, ◌≤◌, false, cond, ◌∷◌, length, get_or, take, drop, sym, ap, ◌∙◌, arith, length-drop, length-take}
+use Rattle.std.proofs.Common.{◌≡◌, ◌+◌, ◌-◌, ◌<◌, ◌≤◌, false, cond, ◌∷◌, length, get_or, drop, sym, ap, ◌∙◌, arith, length-drop, length-take}
 use Rattle.std.proofs.lemmas.List.{at_drop_more, take_all}
 use Rattle.composing.specs.Lines.{is_fill, bare}
 use Rattle.composing.proofs.Cuts.{bare_here}

@@ -1,4 +1,4 @@
-use Rattle.std.proofs.Common.{◌≡◌, List, [], get_or, take, fold, sym, ap, ◌∙◌, subst, take_all}
+use Rattle.std.proofs.Common.{[], get_or, fold, sym, ap, ◌∙◌, subst, take_all}
 use Rattle.std.specs.List.{AllByRecursion}
 use Rattle.std.proofs.ByRecursion.{All-more}
 use Rattle.std.proofs.lemmas.List.Sums.{fold_more}

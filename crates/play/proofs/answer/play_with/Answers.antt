@@ -1,6 +1,5 @@
 use Rattle.std.proofs.Common.{◌≡◌, fold, ap, ◌∙◌}
-use Rattle.sheet.specs.Meanings.{Meaning}
-use Rattle.run.specs.Runs.{Config, report_of, begun}
+use Rattle.run.specs.Runs.{report_of}
 use Rattle.run.specs.Cuttings.{answering, played}
 use Rattle.reader.specs.Views.{config_of}
 use Rattle.play.specs.Plays.{calls_of, New}

@@ -1,4 +1,4 @@
-use Rattle.std.proofs.Common.{◌≡◌, ℕ, ◌-◌, List, take, ap, subst}
+use Rattle.std.proofs.Common.{◌≡◌, ◌-◌, take, ap, subst}
 use native.Mathlib.Nat.{sub-zero}
 use Rattle.statement.specs.Reading.{reading}
 use Rattle.run.specs.declared.types.Life.TheVariants.{Live}

@@ -1,4 +1,4 @@
-use Rattle.std.proofs.Common.{◌≡◌, ℕ, ◌+◌, ◌-◌, ◌<◌, ◌≤◌, Bool, true, false, not, leb, List, ◌++◌, length, take, sym, refl, ap, ◌∙◌, arith, length-append, length-take, rules, le-leb, leb-false, leb-true}
+use Rattle.std.proofs.Common.{◌≡◌, ℕ, ◌+◌, ◌-◌, ◌≤◌, Bool, true, false, not, leb, List, ◌++◌, length, take, refl, arith, length-append, length-take, rules, le-leb, leb-false, leb-true}
 use borrow.Author.Tests.{lt-leb}
 use Rattle.calls.proofs.types.Definition.has_room.Goals as goal
 

@@ -1,4 +1,4 @@
-use Rattle.std.proofs.Common.{◌≡◌, ap}
+use Rattle.std.proofs.Common.{ap}
 use Rattle.calls.specs.Tables.{entry_of}
 use Rattle.calls.proofs.types.Definition.lengthen.Goals as goal
 

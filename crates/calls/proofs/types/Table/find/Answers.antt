@@ -1,4 +1,4 @@
-use Rattle.std.proofs.Common.{◌≡◌, ◌<◌, ◌≤◌, length, get_or, vec_items, sym, ap, ◌∙◌, rules}
+use Rattle.std.proofs.Common.{◌≡◌, ◌<◌, ◌≤◌, length, get_or, vec_items, sym, ◌∙◌, rules}
 use Rattle.calls.specs.Tables.{entry_of}
 use Rattle.calls.proofs.Places.{place_here, place_later, place_nowhere}
 use Rattle.calls.proofs.types.Table.find.Goals as goal

@@ -1,4 +1,4 @@
-use Rattle.std.proofs.Common.{length, sym, refl, arith, length-drop, length-take}
+use Rattle.std.proofs.Common.{sym, refl, arith, length-drop, length-take}
 use Rattle.composing.proofs.Cuts.{no_lines, next_cut, some_length}
 use Rattle.composing.proofs.script.Script.next.Goals as goal
 

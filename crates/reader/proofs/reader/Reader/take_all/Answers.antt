@@ -1,4 +1,4 @@
-use Rattle.std.proofs.Common.{◌≡◌, get_or, sym, ap, ◌∙◌, take_all}
+use Rattle.std.proofs.Common.{get_or, sym, ap, ◌∙◌, take_all}
 use Rattle.std.proofs.lemmas.List.Sums.{fold_more}
 use Rattle.run.specs.Runs.{Config, step, run}
 use Rattle.reader.specs.Views.{config_of}

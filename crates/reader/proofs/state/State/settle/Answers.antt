@@ -1,4 +1,3 @@
-use Rattle.std.proofs.Common.{rules}
 use Rattle.statement.specs.Views.{said_by}
 use Rattle.reader.proofs.Names.{name_fits}
 use Rattle.reader.proofs.state.State.settle.Goals as goal
