@@ -138,15 +138,26 @@ fn inks_corners<S: Sheet>(rt: &impl Abort, sheet: &mut S, pixels: u16) {
     assert!(rt; !sheet.inked((-1, 0)) && !sheet.inked((last + 1, last)));
 }
 
+// Puts the dots on a bit sheet of that side, in the front of a memory.
+fn inks_bit_corners(
+    rt: &impl Abort,
+    memory: &mut [u8],
+    pixels: u16,
+    len: usize,
+) -> Result<(), Fail> {
+    assert!(rt; len <= memory.len());
+    let part = &mut memory[0..len];
+    raster::ask(pixels, part)?;
+    let mut bits = raster::make(pixels, part);
+    inks_corners(rt, &mut bits, pixels);
+    Ok(())
+}
+
 #[test]
 fn corners_of_bit_sheets(rt: HostRuntime) -> Result<(), Fail> {
     for (pixels, len) in SIDES {
-        let mut memory = [0u8; 524288];
-        assert!(rt; len <= 524288);
-        let part = &mut memory[0..len];
-        raster::ask(pixels, part)?;
-        let mut bits = raster::make(pixels, part);
-        inks_corners(&rt, &mut bits, pixels);
+        let mut memory = vec![in rt.alloc(); 0u8; 524288]?;
+        inks_bit_corners(&rt, &mut memory, pixels, len)?;
     }
     Ok(())
 }

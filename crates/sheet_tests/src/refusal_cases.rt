@@ -2,6 +2,8 @@
 use geometry::Point;
 use mark::LineMode;
 use sheet::Unfit;
+use std::process::Abort;
+use std::test::Fail;
 use strokes::{Kind, Stroke};
 
 // The number under which an asking refuses, or 0.
@@ -33,13 +35,19 @@ const BIT_SHEETS: [(u16, usize, u8); 17] = [
     (65535, 0, 18),
 ];
 
+// The number under which the front of a memory is refused, or 0.
+fn bit_number(rt: &impl Abort, memory: &[u8], side: u16, len: usize) -> u8 {
+    assert!(rt; len <= memory.len());
+    number(raster::ask(side, &memory[0..len]))
+}
+
 #[test]
-fn bit_sheets_are_asked_for(rt: HostRuntime) {
-    let memory = [0u8; 524289];
+fn bit_sheets_are_asked_for(rt: HostRuntime) -> Result<(), Fail> {
+    let memory = vec![in rt.alloc(); 0u8; 524289]?;
     for (side, len, answer) in BIT_SHEETS {
-        assert!(rt; len <= 524289);
-        assert!(rt; number(raster::ask(side, &memory[0..len])) == answer);
+        assert!(rt; bit_number(&rt, &memory, side, len) == answer);
     }
+    Ok(())
 }
 
 // A side, how many records, and the answer to the asking for a stroke table.
