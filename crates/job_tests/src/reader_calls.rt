@@ -88,7 +88,8 @@ fn sheets_that_are_full(rt: HostRuntime) -> Result<(), Fail> {
     };
     assert!(rt; count >= 72 && count <= 300);
     assert!(rt;
-        &out[72..count] == b"read 11 pictures 0 statements 2 beam 5 6 fault 17 at 6 in 0 0\n"
+        &out[72..count]
+            == b"read 11 pictures 0 statements 2 beam 5 6 fault 17 at 6 in 0 0\n".as_slice()
     );
     // the refusal is given again
     assert_eq!(rt; number(reader.feed(&mut table, &[1])), 17);
