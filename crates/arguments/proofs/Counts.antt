@@ -5,7 +5,7 @@ use Rattle.std.proofs.lemmas.Bool.{cond-true, cond-false, lt-ltb, le-ltb}
 use Rattle.arguments.specs.declared.stop.Stop.TheVariants.{Wrong}
 use Rattle.statement.specs.declared.types.Fault.TheVariants as fault
 use Rattle.statement.specs.Reading.{wrong, found, count, long_count, measured, string}
-use Rattle.statement.specs.Views.{count_size}
+use Rattle.statement.specs.Places.{count_size}
 use Rattle.arguments.specs.Stops.{long_count_by}
 
 pub one_byte : (bs : List ℕ) → 1 ≤ length bs → get_or bs 0 0 < 128 → found (get_or bs 0 0) (take (length bs - 1) (drop 1 bs)) ≡ count bs
@@ -65,14 +65,15 @@ module _ (n : ℕ) (bs rest text after : List ℕ) (counted : found n rest ≡ c
       ∙ ap (measured limit) counted
 
   -- `at` is where the count stands
+  pub string_stands : (at : ℕ) → length text ≡ n → at + (length bs - length rest) ≡ at + count_size (length text)
+  string_stands at size = ap (λ m. at + m) ((count_leaves n bs rest counted).size ∙ ap count_size (sym size))
+
   pub string_lies :
       (at : ℕ) (ws : List ℕ) → length text ≡ n → drop at ws ≡ bs
-      → ((at + (length bs - length rest) ≡ at + count_size (length text)) × (take (length text) (drop (at + (length bs - length rest)) ws) ≡ text))
-      × (drop (at + (length bs - length rest) + length text) ws ≡ after)
+      → (take (length text) (drop (at + (length bs - length rest)) ws) ≡ text) × (drop (at + (length bs - length rest) + length text) ws ≡ after)
   string_lies at ws size e =
       let k = length bs - length rest in
-      let left = count_leaves n bs rest counted in
-      let here : drop (at + k) ws ≡ rest = sym (drop-drop k at ws) ∙ ap (drop k) e ∙ left.end in (
-        (ap (λ m. at + m) (left.size ∙ ap count_size (sym size)), ap (take (length text)) here ∙ ap (λ m. take m rest) size ∙ sym is-text),
+      let here : drop (at + k) ws ≡ rest = sym (drop-drop k at ws) ∙ ap (drop k) e ∙ (count_leaves n bs rest counted).end in (
+        ap (take (length text)) here ∙ ap (λ m. take m rest) size ∙ sym is-text,
         sym (drop-drop (length text) (at + k) ws) ∙ ap (drop (length text)) here ∙ ap (λ m. drop m rest) size ∙ sym is-after,
       )

@@ -1,7 +1,7 @@
 // Counts and strings.
 ghost use Rattle.std.specs.Prelude.{◌≡◌, ◌+◌, ◌-◌, ◌*◌, ◌≤◌};
 ghost use Rattle.statement.specs.Reading.{count, string};
-ghost use Rattle.arguments.specs.Stops.{long_count_by, count_front, string_front, StringLies};
+ghost use Rattle.arguments.specs.Stops.{long_count_by, count_front, string_front, StringLies, StringStandsBy};
 
 use crate::stop::Stop;
 use statement::types::{Fault, Part};
@@ -41,6 +41,7 @@ pub(crate) fn read_string(limit: usize, at: usize, bytes: &[u8]) -> Result<(Part
     requires { at ≤ 2 }
     ensures value { string_front result ≡ string limit bytes.now }
     ensures place { StringLies result at bytes.now }
+    ensures stands { StringStandsBy at result }
 {
     let (n, rest) = read_count(bytes)?;
     if n > limit {
@@ -61,6 +62,7 @@ pub(crate) fn read_string(limit: usize, at: usize, bytes: &[u8]) -> Result<(Part
 pub fn read_name(rest: &[u8]) -> Result<(Part<'_>, &[u8]), Stop>
     ensures value { string_front result ≡ string 8 rest.now }
     ensures place { StringLies result 1 rest.now }
+    ensures stands { StringStandsBy 1 result }
 {
     read_string(LONGEST_NAME, 1, rest)
 }

@@ -2,8 +2,9 @@
 ghost use Rattle.std.specs.Prelude.{◌≡◌, ℕ, List};
 ghost use Rattle.statement.specs.Statements.{act, plain, travel};
 ghost use Rattle.statement.specs.Reading.{travelled, pair};
-ghost use Rattle.arguments.specs.Stops.{shape_by, PartsBy};
+ghost use Rattle.arguments.specs.Stops.{shape_by, PartsBy, PartsStandBy};
 ghost use Rattle.statement.specs.Views.{said_by, PartsLie};
+ghost use Rattle.statement.specs.Places.{PartsStand};
 
 use crate::stop::Stop;
 use statement::coordinate::{coordinate_of, is_lawful};
@@ -14,6 +15,7 @@ use statement::types::{Fault, Statement};
 fn travel_of<'a>(trace: Trace, aim: Aim, x: i16, y: i16) -> Statement<'a>
     ensures said { said_by result ≡ act (plain (travel trace aim x y)) }
     ensures parts { (bs : List ℕ) → PartsLie result bs }
+    ensures stands { PartsStand result }
 {
     match (trace, aim) {
         (Trace::Blank, Aim::Absolute) => Statement::Movea(x, y),
@@ -29,6 +31,7 @@ fn travel_of<'a>(trace: Trace, aim: Aim, x: i16, y: i16) -> Statement<'a>
 fn lawful_travel<'a>(trace: Trace, aim: Aim, x: i16, y: i16) -> Result<Statement<'a>, Stop>
     ensures value { shape_by result ≡ travelled trace aim x y }
     ensures parts { (bs : List ℕ) → PartsBy result bs }
+    ensures stands { PartsStandBy result }
 {
     if is_lawful(aim, x) && is_lawful(aim, y) {
         Ok(travel_of(trace, aim, x, y))
@@ -41,6 +44,7 @@ fn lawful_travel<'a>(trace: Trace, aim: Aim, x: i16, y: i16) -> Result<Statement
 pub fn read_pair(trace: Trace, aim: Aim, rest: &[u8]) -> Result<Statement<'_>, Stop>
     ensures value { shape_by result ≡ pair trace aim rest.now }
     ensures parts { (bs : List ℕ) → PartsBy result bs }
+    ensures stands { PartsStandBy result }
 {
     match rest {
         [a, b, c, d, ..] => lawful_travel(trace, aim, coordinate_of(*a, *b), coordinate_of(*c, *d)),

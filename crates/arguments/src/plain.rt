@@ -2,8 +2,9 @@
 ghost use Rattle.std.specs.Prelude.{◌≡◌, ℕ, List};
 ghost use Rattle.statement.specs.Statements.{alone};
 ghost use Rattle.statement.specs.Reading.{setting};
-ghost use Rattle.arguments.specs.Stops.{shape_by, PartsBy};
+ghost use Rattle.arguments.specs.Stops.{shape_by, PartsBy, PartsStandBy};
 ghost use Rattle.statement.specs.Views.{said_by, PartsLie};
+ghost use Rattle.statement.specs.Places.{PartsStand};
 
 use crate::stop::Stop;
 use statement::layout::{Bare, Setting};
@@ -13,6 +14,7 @@ use statement::types::Statement;
 pub fn bare_of<'a>(bare: Bare) -> Statement<'a>
     ensures said { said_by result ≡ alone bare }
     ensures parts { (bs : List ℕ) → PartsLie result bs }
+    ensures stands { PartsStand result }
 {
     match bare {
         Bare::Null => Statement::Null,
@@ -29,6 +31,7 @@ pub fn bare_of<'a>(bare: Bare) -> Statement<'a>
 pub fn read_value(which: Setting, rest: &[u8]) -> Result<Statement<'_>, Stop>
     ensures value { shape_by result ≡ setting which rest.now }
     ensures parts { (bs : List ℕ) → PartsBy result bs }
+    ensures stands { PartsStandBy result }
 {
     match (which, rest) {
         (Setting::LineMode, [value, ..]) => Ok(Statement::Linmod(*value)),

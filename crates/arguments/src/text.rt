@@ -2,8 +2,9 @@
 ghost use Rattle.std.specs.Prelude.{◌≡◌, ℕ, List, ◌∷◌};
 ghost use Rattle.statement.specs.Statements.{act, plain, letters, escape};
 ghost use Rattle.statement.specs.Reading.{onto, string, texted, escaped, escaping};
-ghost use Rattle.arguments.specs.Stops.{shape_by, PartsBy};
-ghost use Rattle.statement.specs.Views.{bytes_of, said_by, StringIn, PartsLie};
+ghost use Rattle.arguments.specs.Stops.{shape_by, PartsBy, PartsStandBy};
+ghost use Rattle.statement.specs.Views.{bytes_of, said_by, LiesIn, PartsLie};
+ghost use Rattle.statement.specs.Places.{StringStands, PartsStand};
 
 use crate::count::{LONGEST_STRING, read_string};
 use crate::stop::Stop;
@@ -14,7 +15,8 @@ use statement::types::{Fault, Part, Statement};
 // The statement that sets a text.
 fn text_of(manner: Manner, text: Part<'_>) -> Statement<'_>
     ensures said { said_by result ≡ act (plain (letters manner (bytes_of text.entry))) }
-    ensures parts { (bs : List ℕ) → StringIn 1 text.entry bs → PartsLie result bs }
+    ensures parts { (bs : List ℕ) → LiesIn text.entry bs → PartsLie result bs }
+    ensures stands { StringStands 1 text.entry → PartsStand result }
 {
     match manner {
         Manner::Onward => Statement::Text(text),
@@ -27,6 +29,7 @@ fn text_of(manner: Manner, text: Part<'_>) -> Statement<'_>
 pub fn read_text(manner: Manner, rest: &[u8]) -> Result<Statement<'_>, Stop>
     ensures value { shape_by result ≡ onto (string 512 rest.now) (texted manner) }
     ensures parts { (code : ℕ) → PartsBy result (code ∷ rest.now) }
+    ensures stands { PartsStandBy result }
 {
     let (text, _) = read_string(LONGEST_STRING, 1, rest)?;
     if !is_text(text.bytes) {
@@ -38,7 +41,8 @@ pub fn read_text(manner: Manner, rest: &[u8]) -> Result<Statement<'_>, Stop>
 // The escape of a value and a text.
 fn escape_of(value: u8, text: Part<'_>) -> Statement<'_>
     ensures said { said_by result ≡ act (plain (escape value (bytes_of text.entry))) }
-    ensures parts { (bs : List ℕ) → StringIn 2 text.entry bs → PartsLie result bs }
+    ensures parts { (bs : List ℕ) → LiesIn text.entry bs → PartsLie result bs }
+    ensures stands { StringStands 2 text.entry → PartsStand result }
 {
     Statement::Escdev(value, text)
 }
@@ -47,6 +51,7 @@ fn escape_of(value: u8, text: Part<'_>) -> Statement<'_>
 fn escape_with(value: u8, rest: &[u8]) -> Result<Statement<'_>, Stop>
     ensures value { shape_by result ≡ onto (string 512 rest.now) (escaped value) }
     ensures parts { (code : ℕ) → PartsBy result (code ∷ value ∷ rest.now) }
+    ensures stands { PartsStandBy result }
 {
     let (text, _) = read_string(LONGEST_STRING, 2, rest)?;
     Ok(escape_of(value, text))
@@ -56,6 +61,7 @@ fn escape_with(value: u8, rest: &[u8]) -> Result<Statement<'_>, Stop>
 pub fn read_escape(rest: &[u8]) -> Result<Statement<'_>, Stop>
     ensures value { shape_by result ≡ escaping rest.now }
     ensures parts { (code : ℕ) → PartsBy result (code ∷ rest.now) }
+    ensures stands { PartsStandBy result }
 {
     match rest {
         [] => Err(Stop::Wanting),

@@ -1,8 +1,9 @@
 // Headings of definitions.
 ghost use Rattle.std.specs.Prelude.{◌≡◌, ℕ, List, ◌∷◌};
 ghost use Rattle.statement.specs.Reading.{onto, string, header_of, titled, heading};
-ghost use Rattle.arguments.specs.Stops.{shape_by, PartsBy};
-ghost use Rattle.statement.specs.Views.{bytes_of, StringIn};
+ghost use Rattle.arguments.specs.Stops.{shape_by, PartsBy, PartsStandBy};
+ghost use Rattle.statement.specs.Views.{bytes_of, LiesIn};
+ghost use Rattle.statement.specs.Places.{StringStands};
 
 use arguments::count::read_name;
 use arguments::stop::Stop;
@@ -13,7 +14,8 @@ use statement::types::{Fault, Part, Statement};
 // The heading of a name and a header byte.
 fn heading_of(name: Part<'_>, byte: u8) -> Result<Statement<'_>, Stop>
     ensures value { shape_by result ≡ titled (bytes_of name.entry) (header_of byte) }
-    ensures parts { (bs : List ℕ) → StringIn 1 name.entry bs → PartsBy result bs }
+    ensures parts { (bs : List ℕ) → LiesIn name.entry bs → PartsBy result bs }
+    ensures stands { StringStands 1 name.entry → PartsStandBy result }
 {
     let Some(header) = header_of(byte) else {
         return Err(Stop::Wrong(Fault::WrongLayout));
@@ -27,7 +29,8 @@ fn heading_of(name: Part<'_>, byte: u8) -> Result<Statement<'_>, Stop>
 // The heading with a name; `rest` is what follows the name.
 fn heading_with<'a>(name: Part<'a>, rest: &'a [u8]) -> Result<Statement<'a>, Stop>
     ensures value { shape_by result ≡ heading (bytes_of name.entry) rest.now }
-    ensures parts { (bs : List ℕ) → StringIn 1 name.entry bs → PartsBy result bs }
+    ensures parts { (bs : List ℕ) → LiesIn name.entry bs → PartsBy result bs }
+    ensures stands { StringStands 1 name.entry → PartsStandBy result }
 {
     match rest {
         [] | [1] => Err(Stop::Wanting),
@@ -40,6 +43,7 @@ fn heading_with<'a>(name: Part<'a>, rest: &'a [u8]) -> Result<Statement<'a>, Sto
 pub(crate) fn read_heading(rest: &[u8]) -> Result<Statement<'_>, Stop>
     ensures value { shape_by result ≡ onto (string 8 rest.now) heading }
     ensures parts { (code : ℕ) → PartsBy result (code ∷ rest.now) }
+    ensures stands { PartsStandBy result }
 {
     let (name, after) = read_name(rest)?;
     heading_with(name, after)

@@ -2,8 +2,9 @@
 ghost use Rattle.std.specs.Prelude.{◌≡◌, ℕ, ◌∷◌};
 ghost use Rattle.statement.specs.Statements.{layout_of, allowed};
 ghost use Rattle.statement.specs.Reading.{arguments, admitted, reading};
-ghost use Rattle.arguments.specs.Stops.{shape_by, PartsBy};
+ghost use Rattle.arguments.specs.Stops.{shape_by, PartsBy, PartsStandBy};
 ghost use Rattle.statement.specs.Views.{shape_of, ReadingLies};
+ghost use Rattle.statement.specs.Places.{ReadingStands};
 
 use crate::calling::read_call;
 use crate::heading::read_heading;
@@ -19,6 +20,7 @@ use statement::types::{Fault, Reading, Standing, Statement};
 fn read_arguments(layout: Layout, rest: &[u8]) -> Result<Statement<'_>, Stop>
     ensures value { shape_by result ≡ arguments layout rest.now }
     ensures parts { (code : ℕ) → PartsBy result (code ∷ rest.now) }
+    ensures stands { PartsStandBy result }
 {
     match layout {
         Layout::Bare(bare) => Ok(bare_of(bare)),
@@ -35,6 +37,7 @@ fn read_arguments(layout: Layout, rest: &[u8]) -> Result<Statement<'_>, Stop>
 fn read_code(standing: Standing, code: u8, rest: &[u8]) -> Result<Statement<'_>, Stop>
     ensures value { shape_by result ≡ admitted (allowed standing code) (layout_of code) rest.now }
     ensures parts { PartsBy result (code ∷ rest.now) }
+    ensures stands { PartsStandBy result }
 {
     let Some(layout) = layout_of(code) else {
         return Err(Stop::Wrong(Fault::UnknownCode));
@@ -49,6 +52,7 @@ fn read_code(standing: Standing, code: u8, rest: &[u8]) -> Result<Statement<'_>,
 fn read_front(standing: Standing, bytes: &[u8]) -> Result<Statement<'_>, Stop>
     ensures value { shape_by result ≡ reading standing bytes.now }
     ensures parts { PartsBy result bytes.now }
+    ensures stands { PartsStandBy result }
 {
     match bytes {
         [] => Err(Stop::Wanting),
@@ -60,6 +64,7 @@ fn read_front(standing: Standing, bytes: &[u8]) -> Result<Statement<'_>, Stop>
 pub fn read(standing: Standing, bytes: &[u8]) -> Reading<'_>
     ensures value { shape_of result ≡ reading standing bytes.now }
     ensures parts { ReadingLies result bytes.now }
+    ensures stands { ReadingStands result }
 {
     match read_front(standing, bytes) {
         Ok(statement) => Reading::Whole(statement),

@@ -3,8 +3,9 @@ ghost use Rattle.std.specs.Prelude.{◌≡◌, ℕ, ◌+◌, ◌≤◌, List, le
 ghost use Rattle.std.specs.Option.{option_map};
 ghost use Rattle.statement.specs.Statements.{CallTail};
 ghost use Rattle.statement.specs.Reading.{tail_at, tail_end, tail_as, coded_tail, tail_of};
-ghost use Rattle.parsing.specs.Tails.{TailPartsBy, as_front, AsLies};
+ghost use Rattle.parsing.specs.Tails.{TailPartsBy, TailStandsBy, as_front, AsLies, AsStands};
 ghost use Rattle.statement.specs.Views.{bytes_of, tail_said, PartLies};
+ghost use Rattle.statement.specs.Places.{NameStands};
 
 use statement::coordinate::coordinate_of;
 use statement::types::{Part, Tail};
@@ -12,7 +13,8 @@ use statement::types::{Part, Tail};
 // The tail that ends here.
 fn tail_end<'a>(as_name: Option<Part<'a>>, rest: &[u8]) -> Option<Tail<'a>>
     ensures value { option_map tail_said result ≡ tail_end (option_map bytes_of as_name.entry) rest.now }
-    ensures parts { (at : ℕ) (bs : List ℕ) → PartLies as_name.entry (at + 1) bs → TailPartsBy result at bs }
+    ensures parts { (bs : List ℕ) → PartLies as_name.entry bs → TailPartsBy result bs }
+    ensures stands { (at : ℕ) → NameStands at as_name.entry → TailStandsBy at result }
 {
     match rest {
         [] => Some(Tail::Coded { as_name, at: None }),
@@ -23,7 +25,8 @@ fn tail_end<'a>(as_name: Option<Part<'a>>, rest: &[u8]) -> Option<Tail<'a>>
 // The tail that ends with an AT point.
 fn tail_at<'a>(as_name: Option<Part<'a>>, rest: &[u8]) -> Option<Tail<'a>>
     ensures value { option_map tail_said result ≡ tail_at (option_map bytes_of as_name.entry) rest.now }
-    ensures parts { (at : ℕ) (bs : List ℕ) → PartLies as_name.entry (at + 1) bs → TailPartsBy result at bs }
+    ensures parts { (bs : List ℕ) → PartLies as_name.entry bs → TailPartsBy result bs }
+    ensures stands { (at : ℕ) → NameStands at as_name.entry → TailStandsBy at result }
 {
     match rest {
         [a, b, c, d] => {
@@ -41,7 +44,8 @@ fn tail_at<'a>(as_name: Option<Part<'a>>, rest: &[u8]) -> Option<Tail<'a>>
 fn read_as_name(at: usize, bytes: &[u8]) -> Option<(Part<'_>, &[u8])>
     requires { at ≤ 32 }
     ensures value { (k : Option (List ℕ) → List ℕ → Option CallTail) → as_front result k ≡ tail_as k bytes.now }
-    ensures place { (bs : List ℕ) → take (length bytes.now) (drop at bs) ≡ bytes.now → AsLies result at bs }
+    ensures place { (bs : List ℕ) → take (length bytes.now) (drop at bs) ≡ bytes.now → AsLies result bs }
+    ensures stands { AsStands at result }
 {
     match bytes {
         [n, rest @ ..] if *n <= 8 && *n as usize <= rest.len() => {
@@ -58,21 +62,22 @@ fn read_as_name(at: usize, bytes: &[u8]) -> Option<(Part<'_>, &[u8])>
     }
 }
 
-// The tail that follows its code byte, if it fits exactly; `at` is the place of the code byte in the statement.
+// The tail that follows its code byte, if it fits exactly; `at` is the place of `rest` in the statement.
 fn coded_tail(at: usize, code: u8, rest: &[u8]) -> Option<Tail<'_>>
-    requires { at ≤ 31 }
+    requires { at ≤ 32 }
     ensures value { option_map tail_said result ≡ coded_tail code rest.now }
-    ensures parts { (bs : List ℕ) → take (length rest.now) (drop (at + 1) bs) ≡ rest.now → TailPartsBy result at bs }
+    ensures parts { (bs : List ℕ) → take (length rest.now) (drop at bs) ≡ rest.now → TailPartsBy result bs }
+    ensures stands { TailStandsBy at result }
 {
     match code {
         0x00 => tail_end(None, rest),
         0x40 => tail_at(None, rest),
         0x80 => {
-            let (name, after) = read_as_name(at + 1, rest)?;
+            let (name, after) = read_as_name(at, rest)?;
             tail_end(Some(name), after)
         }
         0xC0 => {
-            let (name, after) = read_as_name(at + 1, rest)?;
+            let (name, after) = read_as_name(at, rest)?;
             tail_at(Some(name), after)
         }
         _ => None,
@@ -83,10 +88,11 @@ fn coded_tail(at: usize, code: u8, rest: &[u8]) -> Option<Tail<'_>>
 pub(crate) fn read_tail(at: usize, bytes: &[u8]) -> Option<Tail<'_>>
     requires { at ≤ 16 }
     ensures value { option_map tail_said result ≡ tail_of bytes.now }
-    ensures parts { (bs : List ℕ) → take (length bytes.now) (drop at bs) ≡ bytes.now → TailPartsBy result at bs }
+    ensures parts { (bs : List ℕ) → take (length bytes.now) (drop at bs) ≡ bytes.now → TailPartsBy result bs }
+    ensures stands { TailStandsBy (at + 1) result }
 {
     match bytes {
         [] => Some(Tail::Empty),
-        [code, rest @ ..] => coded_tail(at, *code, rest),
+        [code, rest @ ..] => coded_tail(at + 1, *code, rest),
     }
 }

@@ -1,3 +1,4 @@
 pub mod Statements
 pub mod Reading
 pub mod Views
+pub mod Places

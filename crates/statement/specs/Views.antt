@@ -1,5 +1,5 @@
 -- What the values of the code say.
-use Rattle.std.specs.Prelude.{◌≡◌, ℕ, ◌+◌, cond, List, length, take, drop, Some, None, Option, nat_lt}
+use Rattle.std.specs.Prelude.{◌≡◌, ℕ, List, length, take, drop, Some, None, Option}
 use Rattle.std.specs.Option.{option_map}
 use Rattle.statement.specs.declared.layout.Trace.TheVariants as trace
 use Rattle.statement.specs.declared.layout.Aim.TheVariants as aim
@@ -68,23 +68,13 @@ shape_of (came.Whole s) = whole (said_by s)
 abbrev pub LiesIn : Part → List ℕ → Type 0
 LiesIn p bs = take (length (bytes_of p)) (drop p.at bs) ≡ bytes_of p
 
--- how many bytes a count takes
-abbrev pub count_size : ℕ → ℕ
-count_size n = cond (nat_lt n 128) 1 2
+abbrev pub PartLies : Option Part → List ℕ → Type 0
+PartLies None bs = Unit {0}
+PartLies (Some p) bs = LiesIn p bs
 
--- a string lies behind its count, which stands at a place
-abbrev pub StringIn : ℕ → Part → List ℕ → Type 0
-StringIn at p bs = (p.at ≡ at + count_size (length (bytes_of p))) × LiesIn p bs
-
--- an AS name lies behind its count, which is one byte and stands at a place
-abbrev pub PartLies : Option Part → ℕ → List ℕ → Type 0
-PartLies None at bs = Unit {0}
-PartLies (Some p) at bs = (p.at ≡ at + 1) × LiesIn p bs
-
--- the AS name of a tail that begins at a place stands behind the code byte
-abbrev pub TailLies : Tail → ℕ → List ℕ → Type 0
-TailLies tail.Empty at bs = Unit {0}
-TailLies (tail.Coded a p) at bs = PartLies a (at + 1) bs
+abbrev pub TailLies : Tail → List ℕ → Type 0
+TailLies tail.Empty bs = Unit {0}
+TailLies (tail.Coded a p) bs = PartLies a bs
 
 -- every name and text of a statement is a part of these bytes, at the place that it has
 abbrev pub PartsLie : Statement → List ℕ → Type 0
@@ -96,16 +86,16 @@ PartsLie (stmt.Drawa x y) bs = Unit {0}
 PartsLie (stmt.Drawr x y) bs = Unit {0}
 PartsLie (stmt.Dota x y) bs = Unit {0}
 PartsLie (stmt.Dotr x y) bs = Unit {0}
-PartsLie (stmt.Text p) bs = StringIn 1 p bs
-PartsLie (stmt.Textr p) bs = StringIn 1 p bs
+PartsLie (stmt.Text p) bs = LiesIn p bs
+PartsLie (stmt.Textr p) bs = LiesIn p bs
 PartsLie stmt.Endpic bs = Unit {0}
-PartsLie (stmt.Escdev v p) bs = StringIn 2 p bs
+PartsLie (stmt.Escdev v p) bs = LiesIn p bs
 PartsLie (stmt.Linmod v) bs = Unit {0}
 PartsLie (stmt.Setint v) bs = Unit {0}
-PartsLie (stmt.Texto p) bs = StringIn 1 p bs
-PartsLie (stmt.Subhed p h) bs = StringIn 1 p bs
+PartsLie (stmt.Texto p) bs = LiesIn p bs
+PartsLie (stmt.Subhed p h) bs = LiesIn p bs
 PartsLie stmt.Subend bs = Unit {0}
-PartsLie (stmt.Insts p t) bs = StringIn 1 p bs × TailLies t (p.at + length (bytes_of p) + 1) bs
+PartsLie (stmt.Insts p t) bs = LiesIn p bs × TailLies t bs
 PartsLie stmt.Mark bs = Unit {0}
 PartsLie stmt.Movemk bs = Unit {0}
 PartsLie stmt.Drawmk bs = Unit {0}

@@ -1,5 +1,5 @@
 use Rattle.std.proofs.Common.{arith}
-use Rattle.arguments.proofs.Counts.{count_leaves, string_found, string_lies}
+use Rattle.arguments.proofs.Counts.{count_leaves, string_found, string_stands, string_lies}
 use Rattle.arguments.proofs.count.read_string.Goals as goal
 
 pub returns : goal.returns
@@ -15,4 +15,5 @@ returns c =
         omega (arith, (count_leaves n bytes rest counted).few),
         λ ws e. string_lies n bytes rest _ _ counted split.front split.back c.args.at ws split.front_len e,
       );
+      stands = string_stands n bytes rest _ _ counted split.front split.back c.args.at split.front_len;
     }

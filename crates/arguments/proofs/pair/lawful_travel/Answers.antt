@@ -11,4 +11,4 @@ returns-then-is_lawful-2 c =
     let said = simp to_z-of_z at c.travel_of.ensures.said in
     let p = simp to_z-of_z at c.if-is_lawful.ensures in
     let q = simp to_z-of_z at c.if-is_lawful-2.ensures in
-    record { value = ap whole said ∙ sym (cond-true _ _ _ (and_from _ _ (sym p) (sym q))); parts = c.travel_of.ensures.parts }
+    record { value = ap whole said ∙ sym (cond-true _ _ _ (and_from _ _ (sym p) (sym q))); parts = c.travel_of.ensures.parts; stands = c.travel_of.ensures.stands }

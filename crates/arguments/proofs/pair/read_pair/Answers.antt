@@ -22,4 +22,5 @@ returns-in-len4-up c =
     record {
       value = four c.args.trace c.args.aim c.args.rest.now (shape_by c.lawful_travel.result) (search rules) (c.lawful_travel.ensures.value ∙ simp (x, y));
       parts = c.lawful_travel.ensures.parts;
+      stands = c.lawful_travel.ensures.stands;
     }

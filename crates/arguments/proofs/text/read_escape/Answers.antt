@@ -11,4 +11,5 @@ returns-in-len1-up c =
     record {
       value = r.ensures.value ∙ ap escaping (sym e);
       parts = λ code. subst (λ (bs : List ℕ). PartsBy r.result (code ∷ bs)) (sym e) (r.ensures.parts code);
+      stands = r.ensures.stands;
     }

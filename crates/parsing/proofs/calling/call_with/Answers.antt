@@ -11,4 +11,5 @@ returns-in-len1-up-3 c =
     record {
       value = c.call_to.ensures.value ∙ called (bytes_of name) rest some c.if-t-gt-LONGEST_TAIL.false c.if-bytes-t.false;
       parts = λ ws lies e. c.call_to.ensures.parts ws lies (cut_lies (name.at + length (bytes_of name)) ws rest some c.if-bytes-t.false e);
+      stands = c.call_to.ensures.stands;
     }

@@ -11,4 +11,5 @@ returns-in-len1-up c =
     record {
       value = r.ensures.value ∙ ap (reading c.args.standing) e;
       parts = subst (λ (bs : List ℕ). PartsBy r.result bs) e r.ensures.parts;
+      stands = r.ensures.stands;
     }

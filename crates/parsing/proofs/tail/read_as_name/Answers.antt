@@ -13,11 +13,10 @@ returns-in-len1-up c =
     let fits : n ≤ length bytes - 1 = omega (arith, simp (length-take, length-drop) at c.if-n-rest.true) in
     record {
       value = λ k. as_name k bytes some c.if-n-le8.true c.if-n-rest.true split.front split.back;
-      place = λ ws e. (
-        refl,
-        ap (λ m. take m (drop (c.args.at + 1) ws)) split.front_len
-            ∙ part_lies c.args.at ws bytes e 1 n (omega arith)
-            ∙ sym (take-take n (length bytes - 1) (drop 1 bytes) fits)
-            ∙ sym split.front,
-      );
+      place = λ ws e.
+          ap (λ m. take m (drop (c.args.at + 1) ws)) split.front_len
+          ∙ part_lies c.args.at ws bytes e 1 n (omega arith)
+          ∙ sym (take-take n (length bytes - 1) (drop 1 bytes) fits)
+          ∙ sym split.front;
+      stands = refl;
     }

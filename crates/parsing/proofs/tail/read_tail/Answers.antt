@@ -10,4 +10,5 @@ returns-in-len1-up c =
     record {
       value = c.coded_tail.ensures.value ∙ ap tail_of (sym (first_rest bytes 0 (search rules)));
       parts = λ ws e. c.coded_tail.ensures.parts ws (rest_lies c.args.at ws bytes e (search rules));
+      stands = c.coded_tail.ensures.stands;
     }
