@@ -32,12 +32,9 @@ admission job =
 abbrev pub drawing : ℕ → List ℕ → Config
 drawing n bs = outcome (blank n None) bs true
 
--- the page and the report of a configuration
-abbrev pub shown : Config → List ℕ
-shown c = printed c.drawing.ink.sheet (report_of c)
-
+-- the page and the report that it comes to
 abbrev pub drawn_text : ℕ → List ℕ → List ℕ
-drawn_text n bs = shown (drawing n bs)
+drawn_text n bs = printed (drawing n bs).drawing.ink.sheet (report_of (drawing n bs))
 
 abbrev pub job_text : List ℕ → List ℕ
 job_text job = drawn_text (side_of job) (stream_of job)
@@ -45,6 +42,10 @@ job_text job = drawn_text (side_of job) (stream_of job)
 -- what any reader, new or not, comes to by a stream and a finish, on a clear bit sheet of a side
 abbrev pub drawing_by : Reader → ℕ → List ℕ → Config
 drawing_by r n bs = finish (run (config_of r (blank n None)) bs)
+
+-- the page and the report of a configuration
+abbrev pub shown : Config → List ℕ
+shown c = printed c.drawing.ink.sheet (report_of c)
 
 abbrev pub job_text_by : Reader → List ℕ → List ℕ
 job_text_by r job = shown (drawing_by r (side_of job) (stream_of job))
@@ -74,8 +75,3 @@ Came r c = config_of r c.drawing.ink.sheet ≡ c
 abbrev pub LeavesReader : Result ℕ Refusal → List ℕ → Reader → Reader → Type 0
 LeavesReader (Ok n) job before after = Came after (drawing_by before (side_of job) (stream_of job))
 LeavesReader (Err e) job before after = after ≡ before
-
--- the promise for a new reader: the answer and the buffer are those of the job alone
-pub record AsNew (job : List ℕ) (buffer : List ℕ) (r : Result ℕ Refusal) (left : List ℕ) : Type 0 where
-  pub answer : r ≡ job_answer job (length buffer)
-  pub bytes : left ≡ leaves r (job_text job) buffer

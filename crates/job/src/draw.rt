@@ -5,7 +5,7 @@ ghost use Rattle.raster.specs.Bits.{page_bytes};
 ghost use Rattle.run.specs.Runs.{run, finish, report_of};
 ghost use Rattle.reader.specs.Views.{config_of};
 ghost use Rattle.play.specs.Plays.{New};
-ghost use Rattle.job.specs.Jobs.{admission, shown, drawing_by, job_text_by, fit_answer, answer_by, leaves, Came, LeavesReader, AsNew};
+ghost use Rattle.job.specs.Jobs.{admission, drawn_text, job_text, job_answer, shown, drawing_by, job_text_by, fit_answer, answer_by, leaves, Came, LeavesReader};
 
 use crate::admit::admit;
 use crate::refusal::Refusal;
@@ -42,8 +42,10 @@ fn draw_on(
     out: &mut [u8],
 ) -> Result<usize, Refusal>
     requires { asked side (length memory.old) ≡ Ok tt }
-    ensures answer { result ≡ fit_answer (length (shown (drawing_by reader.old side stream.now))) (length out.old) }
-    ensures bytes { out.new ≡ leaves result (shown (drawing_by reader.old side stream.now)) out.old }
+    ensures answer { New reader.old → result ≡ fit_answer (length (drawn_text side stream.now)) (length out.old) }
+    ensures bytes { New reader.old → out.new ≡ leaves result (drawn_text side stream.now) out.old }
+    ensures any_answer { result ≡ fit_answer (length (shown (drawing_by reader.old side stream.now))) (length out.old) }
+    ensures any_bytes { out.new ≡ leaves result (shown (drawing_by reader.old side stream.now)) out.old }
     ensures after { Came reader.new (drawing_by reader.old side stream.now) }
 {
     let mut sheet = raster::make(side, memory);
@@ -72,8 +74,10 @@ fn draw(
     out: &mut [u8],
 ) -> Result<usize, Refusal>
     requires { (8 ≤ side) × (side ≤ 512) }
-    ensures answer { result ≡ fit_answer (length (shown (drawing_by reader.old side stream.now))) (length out.old) }
-    ensures bytes { out.new ≡ leaves result (shown (drawing_by reader.old side stream.now)) out.old }
+    ensures answer { New reader.old → result ≡ fit_answer (length (drawn_text side stream.now)) (length out.old) }
+    ensures bytes { New reader.old → out.new ≡ leaves result (drawn_text side stream.now) out.old }
+    ensures any_answer { result ≡ fit_answer (length (shown (drawing_by reader.old side stream.now))) (length out.old) }
+    ensures any_bytes { out.new ≡ leaves result (shown (drawing_by reader.old side stream.now)) out.old }
     ensures after { Came reader.new (drawing_by reader.old side stream.now) }
 {
     let mut memory = [0u8; 32768];
@@ -88,10 +92,11 @@ pub fn draw_job_cut(
     lengths: &[u8],
     out: &mut [u8],
 ) -> Result<usize, Refusal>
-    ensures answer { result ≡ answer_by (admission job.now) (length (job_text_by reader.old job.now)) (length out.old) }
-    ensures bytes { out.new ≡ leaves result (job_text_by reader.old job.now) out.old }
+    ensures answer { New reader.old → result ≡ job_answer job.now (length out.old) }
+    ensures bytes { New reader.old → out.new ≡ leaves result (job_text job.now) out.old }
+    ensures any_answer { result ≡ answer_by (admission job.now) (length (job_text_by reader.old job.now)) (length out.old) }
+    ensures any_bytes { out.new ≡ leaves result (job_text_by reader.old job.now) out.old }
     ensures after { LeavesReader (admission job.now) job.now reader.old reader.new }
-    ensures new { New reader.old → AsNew job.now out.old result out.new }
 {
     let side = admit(job)?;
     draw(reader, side, &job[2..], lengths, out)
@@ -99,10 +104,11 @@ pub fn draw_job_cut(
 
 // Draws a job with a reader, and prints its page and report into a buffer; or refuses it, and alters no byte.
 pub fn draw_job(reader: &mut Reader, job: &[u8], out: &mut [u8]) -> Result<usize, Refusal>
-    ensures answer { result ≡ answer_by (admission job.now) (length (job_text_by reader.old job.now)) (length out.old) }
-    ensures bytes { out.new ≡ leaves result (job_text_by reader.old job.now) out.old }
+    ensures answer { New reader.old → result ≡ job_answer job.now (length out.old) }
+    ensures bytes { New reader.old → out.new ≡ leaves result (job_text job.now) out.old }
+    ensures any_answer { result ≡ answer_by (admission job.now) (length (job_text_by reader.old job.now)) (length out.old) }
+    ensures any_bytes { out.new ≡ leaves result (job_text_by reader.old job.now) out.old }
     ensures after { LeavesReader (admission job.now) job.now reader.old reader.new }
-    ensures new { New reader.old → AsNew job.now out.old result out.new }
 {
     draw_job_cut(reader, job, &[], out)
 }

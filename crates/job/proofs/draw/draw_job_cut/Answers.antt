@@ -1,11 +1,9 @@
-use Rattle.std.proofs.Common.{◌≡◌, ℕ, ◌-◌, ◌≤◌, List, length, take, drop, None, Ok, Result, sym, ap, ◌∙◌, subst, arith, length-drop, take_all}
+use Rattle.std.proofs.Common.{◌≡◌, ℕ, ◌-◌, ◌≤◌, List, length, take, drop, Ok, Result, sym, ap, ◌∙◌, subst, arith, length-drop, take_all}
 use Rattle.std.proofs.lemmas.Bool.Decides.{nat_tests}
-use Rattle.run.specs.Runs.{Config, run, finish}
-use Rattle.sheet.specs.Meanings.{blank}
+use Rattle.run.specs.Runs.{Config}
 use Rattle.reader.specs.declared.reader.Reader.{Reader}
-use Rattle.play.specs.Plays.{New}
 use Rattle.job.specs.declared.refusal.Refusal.{Refusal}
-use Rattle.job.specs.Jobs.{admission, side_of, stream_of, shown, job_text, drawing_by, job_text_by, fit_answer, answer_by, leaves, Came, LeavesReader, AsNew}
+use Rattle.job.specs.Jobs.{admission, side_of, stream_of, drawn_text, job_text, shown, drawing_by, job_text_by, fit_answer, answer_by, leaves, Came, LeavesReader}
 use Rattle.job.proofs.draw.draw_job_cut.Goals as goal
 
 -- what an admitted job has
@@ -15,22 +13,18 @@ admitted job n h = (grind (arith, nat_tests), grind (arith, nat_tests))
 rest_is : (job : List ℕ) → take (length job - 2) (drop 2 job) ≡ stream_of job
 rest_is job = take_all (length job - 2) (drop 2 job) (simp length-drop (omega arith))
 
+text_is : (job : List ℕ) (n : ℕ) → admission job ≡ Ok n → drawn_text n (take (length job - 2) (drop 2 job)) ≡ job_text job
+text_is job n h = λ i. drawn_text ((admitted job n h).0 i) (rest_is job i)
+
 drawing_is : (r : Reader) (job : List ℕ) (n : ℕ) → admission job ≡ Ok n → drawing_by r n (take (length job - 2) (drop 2 job)) ≡ drawing_by r (side_of job) (stream_of job)
 drawing_is r job n h = λ i. drawing_by r ((admitted job n h).0 i) (rest_is job i)
 
--- a new reader prints what the job alone says
-as_new : (r : Reader) (job : List ℕ) → New r → job_text_by r job ≡ job_text job
-as_new r job new = ap (λ (c : Config). shown (finish (run c (stream_of job)))) (new (blank (side_of job) None))
-
--- so the promise for any reader gives that for a new one
-pub promised : (r : Reader) (job buffer left : List ℕ) (o : Result ℕ Refusal)
-    → o ≡ answer_by (admission job) (length (job_text_by r job)) (length buffer) → left ≡ leaves o (job_text_by r job) buffer → New r → AsNew job buffer o left
-promised r job buffer left o answer bytes new =
-    let t = as_new r job new in
-    record {
-      answer = answer ∙ ap (λ (x : List ℕ). answer_by (admission job) (length x) (length buffer)) t;
-      bytes = bytes ∙ ap (λ (x : List ℕ). leaves o x buffer) t;
-    }
+-- the answer to the text of an admitted job
+fits_is :
+    (job text : List ℕ) (n space : ℕ) {same : List ℕ} → admission job ≡ Ok n → same ≡ text
+    → fit_answer (length same) space ≡ answer_by (admission job) (length text) space
+fits_is job text n space a t =
+    ap (λ (x : List ℕ). fit_answer (length x) space) t ∙ sym (ap (λ (o : Result ℕ Refusal). answer_by o (length text) space) a)
 
 pub returns : goal.returns
 returns c =
@@ -39,13 +33,14 @@ returns c =
     let out = c.args.out.now in
     let n = c.in_ok-side.side in
     let a : admission job ≡ Ok n = sym c.in_ok-side.ensures in
+    let t = text_is job n a in
     let d = drawing_is r job n a in
-    let answer = c.draw.ensures.answer ∙ ap (λ (x : Config). fit_answer (length (shown x)) (length out)) d
-    ∙ sym (ap (λ (o : Result ℕ Refusal). answer_by o (length (job_text_by r job)) (length out)) a) in
-    let bytes = c.draw.ensures.bytes ∙ ap (λ (x : Config). leaves c.draw.result (shown x) out) d in
+    let s = ap shown d in
+    let drawn = c.draw.ensures in
     record {
-      answer = answer;
-      bytes = bytes;
-      after = subst (λ (o : Result ℕ Refusal). LeavesReader o job r c.draw.new.reader) (sym a) (subst (Came c.draw.new.reader) d c.draw.ensures.after);
-      new = promised r job out c.draw.new.out c.draw.result answer bytes;
+      answer = λ new. drawn.answer new ∙ fits_is job (job_text job) n (length out) a t;
+      bytes = λ new. drawn.bytes new ∙ ap (λ (x : List ℕ). leaves c.draw.result x out) t;
+      any_answer = drawn.any_answer ∙ fits_is job (job_text_by r job) n (length out) a s;
+      any_bytes = drawn.any_bytes ∙ ap (λ (x : List ℕ). leaves c.draw.result x out) s;
+      after = subst (λ (o : Result ℕ Refusal). LeavesReader o job r c.draw.new.reader) (sym a) (subst (Came c.draw.new.reader) d drawn.after);
     }
