@@ -37,10 +37,10 @@ impl Writer<'_> {
     }
 }
 
-// A slip is closed, never let go: only one with nothing written before it or by it might be, and opening writes.
+// A slip is closed, never let go: only one with a definition open and nothing written might be, and its heading is written first.
 impl Drop for Slip<'_> {
     fn drop(self)
-        requires { self.used ≡ 0 }
+        requires { (self.used ≡ 0) × (self.opened ≡ Opened.Definition 0) }
     {
         let Slip {
             buffer: _,
