@@ -57,7 +57,7 @@ static JOBS: [Job; 27] = [
 #[test]
 fn short_jobs(rt: HostRuntime) -> Result<(), Fail> {
     for job in &JOBS {
-        reports(&rt, rt.alloc(), job.bytes, job.line)?;
+        reports(rt.alloc(), job.bytes, job.line)?;
     }
     Ok(())
 }

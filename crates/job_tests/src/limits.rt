@@ -22,10 +22,10 @@ fn bodies_of_1024_bytes(rt: HostRuntime) -> Result<(), Fail> {
     let heap = rt.alloc();
     let full = repeating(heap, &HEADING, 0, 1024)?;
     let line = b"read 1029 pictures 0 statements 0 beam 0 0 fault 16 at 1029 in 0 0\n";
-    reports(&rt, heap, &full, line)?;
+    reports(heap, &full, line)?;
     let over = repeating(heap, &HEADING, 0, 1025)?;
     let line = b"read 1030 pictures 0 statements 0 beam 0 0 fault 8 at 1029 in 0 0\n";
-    reports(&rt, heap, &over, line)
+    reports(heap, &over, line)
 }
 
 // A job of side 8 with so many empty definitions, each of seven bytes.
@@ -43,14 +43,14 @@ fn names_of_32(rt: HostRuntime) -> Result<(), Fail> {
     let heap = rt.alloc();
     let mut full = defining(heap, 32)?;
     let line = b"read 224 pictures 0 statements 0 beam 0 0 fault 0 at 0 in 0 0\n";
-    reports(&rt, heap, &full, line)?;
+    reports(heap, &full, line)?;
     // a known name may be defined again
     full.extend_from_slice(&[15, 2, b'A', b'0', 1, 0x40, 16])?;
     let line = b"read 231 pictures 0 statements 0 beam 0 0 fault 0 at 0 in 0 0\n";
-    reports(&rt, heap, &full, line)?;
+    reports(heap, &full, line)?;
     let over = defining(heap, 33)?;
     let line = b"read 230 pictures 0 statements 0 beam 0 0 fault 8 at 224 in 0 0\n";
-    reports(&rt, heap, &over, line)
+    reports(heap, &over, line)
 }
 
 #[test]
@@ -58,10 +58,10 @@ fn marks_of_64(rt: HostRuntime) -> Result<(), Fail> {
     let heap = rt.alloc();
     let full = repeating(heap, &[1], 18, 64)?;
     let line = b"read 65 pictures 0 statements 64 beam 0 0 fault 16 at 65 in 0 0\n";
-    reports(&rt, heap, &full, line)?;
+    reports(heap, &full, line)?;
     let over = repeating(heap, &[1], 18, 65)?;
     let line = b"read 66 pictures 0 statements 65 beam 0 0 fault 10 at 65 in 0 0\n";
-    reports(&rt, heap, &over, line)
+    reports(heap, &over, line)
 }
 
 // A job of side 8 in which each of so many definitions, of eleven bytes, has NULL and a call of the next name, and the first is called.
@@ -82,10 +82,10 @@ fn calls_of_eight(rt: HostRuntime) -> Result<(), Fail> {
     // eight are open, and the ninth name has no entry
     let deep = calling(heap, 8)?;
     let line = b"read 94 pictures 1 statements 17 beam 0 0 fault 0 at 0 in 0 0\n";
-    reports(&rt, heap, &deep, line)?;
+    reports(heap, &deep, line)?;
     let over = calling(heap, 9)?;
     let line = b"read 104 pictures 0 statements 17 beam 0 0 fault 13 at 100 in 8 1\n";
-    reports(&rt, heap, &over, line)
+    reports(heap, &over, line)
 }
 
 #[test]
@@ -99,5 +99,5 @@ fn statements_of_65536(rt: HostRuntime) -> Result<(), Fail> {
     }
     // 63 calls are 64,575 statements, the call is one more, and 960 of its body are 65,536
     let line = b"read 1287 pictures 0 statements 65536 beam 0 0 fault 14 at 1283 in 1 960\n";
-    reports(&rt, heap, &job, line)
+    reports(heap, &job, line)
 }

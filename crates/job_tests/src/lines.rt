@@ -2,7 +2,6 @@
 use job::draw_job;
 use reader::reader::Reader;
 use std::alloc::Global;
-use std::process::Abort;
 use std::test::Fail;
 
 // Eight rows of eight pixels and a line end come before the report.
@@ -12,13 +11,15 @@ const PAGE: usize = 72;
 const ROOM: usize = 300;
 
 // Draws a job of side 8, and compares its report line.
-pub fn reports(rt: &impl Abort, heap: Global, job: &[u8], line: &[u8]) -> Result<(), Fail> {
+pub fn reports(heap: Global, job: &[u8], line: &[u8]) -> Result<(), Fail> {
     let mut reader = Reader::new(heap)?;
     let mut out = [0u8; ROOM];
     let Ok(count) = draw_job(&mut reader, job, &mut out) else {
         return Err(Fail::new("the job is refused"));
     };
-    assert!(rt; count >= PAGE && count <= ROOM);
-    assert!(rt; &out[PAGE..count] == line);
-    Ok(())
+    if PAGE <= count && count <= ROOM && &out[PAGE..count] == line {
+        Ok(())
+    } else {
+        Err(Fail::new("another line"))
+    }
 }

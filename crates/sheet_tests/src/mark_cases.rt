@@ -1,8 +1,7 @@
 // Marks on both kinds of sheet.
 use geometry::Point;
 use mark::{LineMode, Mark};
-use sheet::{Sheet, mark_both};
-use std::process::Abort;
+use sheet::{Sheet, Unfit, mark_both};
 use std::test::Fail;
 use strokes::Stroke;
 
@@ -67,17 +66,15 @@ fn inked_alike<A: Sheet, B: Sheet>(a: &A, b: &B, pixels: u8) -> Option<u32> {
 
 // Puts one mark on two clear sheets, which then bear so many inked pixels.
 fn draws_alike<A: Sheet, B: Sheet>(
-    rt: &impl Abort,
     a: &mut A,
     b: &mut B,
     mark: Mark,
     pixels: u8,
     count: u32,
-) {
+) -> bool {
     a.clear();
     b.clear();
-    assert!(rt; mark_both(a, b, mark));
-    assert!(rt; inked_alike(a, b, pixels) == Some(count));
+    mark_both(a, b, mark) && inked_alike(a, b, pixels) == Some(count)
 }
 
 #[test]
@@ -89,7 +86,7 @@ fn marks_at_side_8(rt: HostRuntime) -> Result<(), Fail> {
     let mut bits = raster::make(8, &mut memory);
     let mut table = strokes::make(8, &mut records);
     for (mark, count, _) in cases() {
-        draws_alike(&rt, &mut bits, &mut table, mark, 8, count);
+        assert!(rt; draws_alike(&mut bits, &mut table, mark, 8, count));
     }
     Ok(())
 }
@@ -103,7 +100,7 @@ fn marks_at_side_9(rt: HostRuntime) -> Result<(), Fail> {
     let mut bits = raster::make(9, &mut memory);
     let mut table = strokes::make(9, &mut records);
     for (mark, _, count) in cases() {
-        draws_alike(&rt, &mut bits, &mut table, mark, 9, count);
+        assert!(rt; draws_alike(&mut bits, &mut table, mark, 9, count));
     }
     Ok(())
 }
@@ -129,35 +126,34 @@ fn all_marks_and_one_too_many(rt: HostRuntime) -> Result<(), Fail> {
 const SIDES: [(u16, usize); 4] = [(8, 8), (9, 18), (512, 32768), (2048, 524288)];
 
 // Puts dots in two corners: the pixels there are inked, and none beside the sheet.
-fn inks_corners<S: Sheet>(rt: &impl Abort, sheet: &mut S, pixels: u16) {
+fn inks_corners<S: Sheet>(sheet: &mut S, pixels: u16) -> bool {
     let last = pixels as i32 - 1;
-    assert!(rt; sheet.mark(dot(-16384, 16383)).is_ok());
-    assert!(rt; sheet.mark(dot(16383, -16384)).is_ok());
-    assert!(rt; sheet.inked((0, 0)) && sheet.inked((last, last)));
-    assert!(rt; !sheet.inked((last, 0)) && !sheet.inked((0, last)));
-    assert!(rt; !sheet.inked((-1, 0)) && !sheet.inked((last + 1, last)));
+    sheet.mark(dot(-16384, 16383)).is_ok()
+        && sheet.mark(dot(16383, -16384)).is_ok()
+        && sheet.inked((0, 0))
+        && sheet.inked((last, last))
+        && !sheet.inked((last, 0))
+        && !sheet.inked((0, last))
+        && !sheet.inked((-1, 0))
+        && !sheet.inked((last + 1, last))
 }
 
 // Puts the dots on a bit sheet of that side, in the front of a memory.
-fn inks_bit_corners(
-    rt: &impl Abort,
-    memory: &mut [u8],
-    pixels: u16,
-    len: usize,
-) -> Result<(), Fail> {
-    assert!(rt; len <= memory.len());
+fn inks_bit_corners(memory: &mut [u8], pixels: u16, len: usize) -> Result<bool, Unfit> {
+    if len > memory.len() {
+        return Ok(false);
+    }
     let part = &mut memory[0..len];
     raster::ask(pixels, part)?;
     let mut bits = raster::make(pixels, part);
-    inks_corners(rt, &mut bits, pixels);
-    Ok(())
+    Ok(inks_corners(&mut bits, pixels))
 }
 
 #[test]
 fn corners_of_bit_sheets(rt: HostRuntime) -> Result<(), Fail> {
     for (pixels, len) in SIDES {
         let mut memory = vec![in rt.alloc(); 0u8; 524288]?;
-        inks_bit_corners(&rt, &mut memory, pixels, len)?;
+        assert!(rt; inks_bit_corners(&mut memory, pixels, len)?);
     }
     Ok(())
 }
@@ -168,7 +164,7 @@ fn corners_of_stroke_tables(rt: HostRuntime) -> Result<(), Fail> {
         let mut records = [Stroke::of(dot(0, 0)); 2];
         strokes::ask(pixels, &records)?;
         let mut table = strokes::make(pixels, &mut records);
-        inks_corners(&rt, &mut table, pixels);
+        assert!(rt; inks_corners(&mut table, pixels));
     }
     Ok(())
 }

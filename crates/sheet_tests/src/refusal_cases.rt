@@ -2,7 +2,6 @@
 use geometry::Point;
 use mark::LineMode;
 use sheet::Unfit;
-use std::process::Abort;
 use std::test::Fail;
 use strokes::{Kind, Stroke};
 
@@ -35,17 +34,19 @@ const BIT_SHEETS: [(u16, usize, u8); 17] = [
     (65535, 0, 18),
 ];
 
-// The number under which the front of a memory is refused, or 0.
-fn bit_number(rt: &impl Abort, memory: &[u8], side: u16, len: usize) -> u8 {
-    assert!(rt; len <= memory.len());
-    number(raster::ask(side, &memory[0..len]))
+// The number under which the front of a memory is refused, or 0, if the memory is as long.
+fn bit_number(memory: &[u8], side: u16, len: usize) -> Option<u8> {
+    if len > memory.len() {
+        return None;
+    }
+    Some(number(raster::ask(side, &memory[0..len])))
 }
 
 #[test]
 fn bit_sheets_are_asked_for(rt: HostRuntime) -> Result<(), Fail> {
     let memory = vec![in rt.alloc(); 0u8; 524289]?;
     for (side, len, answer) in BIT_SHEETS {
-        assert!(rt; bit_number(&rt, &memory, side, len) == answer);
+        assert!(rt; bit_number(&memory, side, len) == Some(answer));
     }
     Ok(())
 }

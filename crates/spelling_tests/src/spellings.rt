@@ -1,6 +1,5 @@
 use encoding::spell::spell;
 use statement::types::{Header, Part, Statement, Tail};
-use std::process::Abort;
 use std::test::Fail;
 
 // A text that is too long by one.
@@ -12,61 +11,48 @@ fn part(bytes: &[u8]) -> Part<'_> {
 }
 
 // A statement is spelt so, and the bytes after it stay.
-fn spells(rt: &impl Abort, statement: Statement<'_>, bytes: &[u8]) -> Result<(), Fail> {
+fn spells(statement: Statement<'_>, bytes: &[u8]) -> Result<(), Fail> {
     let mut buffer = [0xEEu8; 200];
     match spell(statement, &mut buffer) {
         Err(refusal) => Err(Fail::new(refusal.number())),
-        Ok(n) => {
-            assert_eq!(rt; n, bytes.len());
-            assert!(rt; n < 200);
-            assert!(rt; &buffer[..n] == bytes);
-            assert_eq!(rt; buffer[n], 0xEE);
-            Ok(())
-        }
+        Ok(n) if n < 200 && &buffer[..n] == bytes && buffer[n] == 0xEE => Ok(()),
+        Ok(_) => Err(Fail::new("other bytes")),
     }
 }
 
 // A statement is refused under a number, and no byte is altered.
-fn refuses(rt: &impl Abort, statement: Statement<'_>, room: usize, number: u8) -> Result<(), Fail> {
+fn refuses(statement: Statement<'_>, room: usize, number: u8) -> Result<(), Fail> {
     let mut buffer = [0xEEu8; 600];
-    assert!(rt; room <= 600);
+    if room > 600 {
+        return Err(Fail::new("no such room"));
+    }
     match spell(statement, &mut buffer[..room]) {
         Ok(n) => Err(Fail::new(n)),
-        Err(refusal) => {
-            assert_eq!(rt; refusal.number(), number);
-            for b in buffer {
-                assert_eq!(rt; b, 0xEE);
-            }
-            Ok(())
-        }
+        Err(refusal) if refusal.number() != number => Err(Fail::new(refusal.number())),
+        Err(_) if buffer.iter().all(|b| *b == 0xEE) => Ok(()),
+        Err(_) => Err(Fail::new("a byte is altered")),
     }
 }
 
 #[test]
-fn statements_are_spelt(rt: HostRuntime) -> Result<(), Fail> {
-    spells(&rt, Statement::Null, &[0])?;
+fn statements_are_spelt() -> Result<(), Fail> {
+    spells(Statement::Null, &[0])?;
     spells(
-        &rt,
         Statement::Movea(-16384, 16383),
         &[2, 0xC0, 0x00, 0x3F, 0xFF],
     )?;
+    spells(Statement::Dotr(-1, -32767), &[7, 0xFF, 0xFF, 0x80, 0x01])?;
+    spells(Statement::Textr(part(b"AB")), &[9, 2, 65, 66])?;
+    spells(Statement::Escdev(7, part(&[200])), &[11, 7, 1, 200])?;
+    spells(Statement::Setint(3), &[13, 3])?;
     spells(
-        &rt,
-        Statement::Dotr(-1, -32767),
-        &[7, 0xFF, 0xFF, 0x80, 0x01],
-    )?;
-    spells(&rt, Statement::Textr(part(b"AB")), &[9, 2, 65, 66])?;
-    spells(&rt, Statement::Escdev(7, part(&[200])), &[11, 7, 1, 200])?;
-    spells(&rt, Statement::Setint(3), &[13, 3])?;
-    spells(
-        &rt,
         Statement::Subhed(part(b"A1"), Header::Both),
         &[15, 2, 65, 49, 1, 0xC0],
     )
 }
 
 #[test]
-fn calls_are_spelt(rt: HostRuntime) -> Result<(), Fail> {
+fn calls_are_spelt() -> Result<(), Fail> {
     let name = part(b"A");
     let bare = Tail::Coded {
         as_name: None,
@@ -76,25 +62,24 @@ fn calls_are_spelt(rt: HostRuntime) -> Result<(), Fail> {
         as_name: Some(part(b"")),
         at: Some((5, -6)),
     };
-    spells(&rt, Statement::Insts(name, Tail::Empty), &[17, 1, 65, 0])?;
-    spells(&rt, Statement::Insts(name, bare), &[17, 1, 65, 1, 0])?;
+    spells(Statement::Insts(name, Tail::Empty), &[17, 1, 65, 0])?;
+    spells(Statement::Insts(name, bare), &[17, 1, 65, 1, 0])?;
     spells(
-        &rt,
         Statement::Insts(name, full),
         &[17, 1, 65, 6, 0xC0, 0, 0, 5, 0xFF, 0xFA],
     )
 }
 
 #[test]
-fn faults_are_refused(rt: HostRuntime) -> Result<(), Fail> {
+fn faults_are_refused() -> Result<(), Fail> {
     let tail = Tail::Coded {
         as_name: Some(part(b"ABCDEFGHI")),
         at: Some((16384, 0)),
     };
-    refuses(&rt, Statement::Text(part(&LONG)), 600, 4)?;
-    refuses(&rt, Statement::Text(part(&[200])), 0, 5)?;
-    refuses(&rt, Statement::Movea(16384, 0), 600, 6)?;
-    refuses(&rt, Statement::Subhed(part(b""), Header::Full), 600, 5)?;
-    refuses(&rt, Statement::Insts(part(b"ab"), tail), 600, 7)?;
-    refuses(&rt, Statement::Movea(1, 2), 4, 21)
+    refuses(Statement::Text(part(&LONG)), 600, 4)?;
+    refuses(Statement::Text(part(&[200])), 0, 5)?;
+    refuses(Statement::Movea(16384, 0), 600, 6)?;
+    refuses(Statement::Subhed(part(b""), Header::Full), 600, 5)?;
+    refuses(Statement::Insts(part(b"ab"), tail), 600, 7)?;
+    refuses(Statement::Movea(1, 2), 4, 21)
 }

@@ -1,6 +1,5 @@
 use spelling::code::code_of;
 use std::alloc::Global;
-use std::process::Abort;
 use std::test::Fail;
 use walking::story::read_back;
 use walking::walk::LONGEST_STREAM;
@@ -16,46 +15,37 @@ fn ending(end: End) -> (u8, usize) {
 }
 
 // A stream tells statements at these places and with these codes, and ends so.
-fn tells(
-    rt: &impl Abort,
-    heap: Global,
-    bytes: &[u8],
-    told: &[(usize, u8)],
-    end: (u8, usize),
-) -> Result<(), Fail> {
+fn tells(heap: Global, bytes: &[u8], told: &[(usize, u8)], end: (u8, usize)) -> Result<(), Fail> {
     let story = read_back(heap, bytes)?;
-    assert_eq!(rt; story.told.len(), told.len());
+    if story.told.len() != told.len() {
+        return Err(Fail::new("more or fewer statements"));
+    }
     for (placed, (place, code)) in story.told.iter().zip(told.iter()) {
-        assert_eq!(rt; placed.place, *place);
-        assert_eq!(rt; code_of(&placed.statement), *code);
+        if placed.place != *place || code_of(&placed.statement) != *code {
+            return Err(Fail::new("another statement, or place"));
+        }
     }
     let (kind, place) = ending(story.end);
-    assert_eq!(rt; kind, end.0);
-    assert_eq!(rt; place, end.1);
+    if kind != end.0 || place != end.1 {
+        return Err(Fail::new("another end"));
+    }
     Ok(())
 }
 
 #[test]
 fn streams_are_told(rt: HostRuntime) -> Result<(), Fail> {
     let heap = rt.alloc();
-    tells(&rt, heap, &[], &[], (100, 0))?;
+    tells(heap, &[], &[], (100, 0))?;
     tells(
-        &rt,
         heap,
         &[1, 2, 0, 5, 0, 6, 8, 1, 65, 10],
         &[(0, 1), (1, 2), (6, 8), (9, 10)],
         (100, 0),
     )?;
-    tells(&rt, heap, &[1, 0, 8, 2, 65], &[(0, 1), (1, 0)], (101, 5))?;
-    tells(
-        &rt,
-        heap,
-        &[15, 1, 65, 1, 0x80, 0],
-        &[(0, 15), (5, 0)],
-        (101, 6),
-    )?;
-    tells(&rt, heap, &[1, 0, 8, 1, 200, 0], &[(0, 1), (1, 0)], (5, 2))?;
-    tells(&rt, heap, &[1, 16], &[(0, 1)], (2, 1))
+    tells(heap, &[1, 0, 8, 2, 65], &[(0, 1), (1, 0)], (101, 5))?;
+    tells(heap, &[15, 1, 65, 1, 0x80, 0], &[(0, 15), (5, 0)], (101, 6))?;
+    tells(heap, &[1, 0, 8, 1, 200, 0], &[(0, 1), (1, 0)], (5, 2))?;
+    tells(heap, &[1, 16], &[(0, 1)], (2, 1))
 }
 
 #[test]

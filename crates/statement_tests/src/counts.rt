@@ -2,7 +2,6 @@
 use crate::seen::{Answer, answer_to};
 use parsing::read::read;
 use statement::types::{Reading, Standing, Statement};
-use std::process::Abort;
 use std::test::Fail;
 
 // The bytes of a count, and what it counts.
@@ -58,9 +57,11 @@ fn counted(count: &[u8]) -> [u8; 515] {
 }
 
 // The place and the length of the text, which is whole at the last byte.
-fn text_in(rt: &impl Abort, bytes: &[u8]) -> Result<(usize, usize), Fail> {
+fn text_in(bytes: &[u8]) -> Result<(usize, usize), Fail> {
     for k in 0..bytes.len() {
-        assert_eq!(rt; answer_to(Standing::Picture, &bytes[0..k]), Answer::More);
+        if answer_to(Standing::Picture, &bytes[0..k]) != Answer::More {
+            return Err(Fail::new("whole or refused before its end"));
+        }
     }
     match read(Standing::Picture, bytes) {
         Reading::Whole(Statement::Text(text)) => Ok((text.at, text.bytes.len())),
@@ -75,7 +76,7 @@ fn texts_end_where_they_are_counted_to(rt: HostRuntime) -> Result<(), Fail> {
         let at = row.bytes.len() + 1;
         assert!(rt; at <= 3);
         assert!(rt; row.n <= 512);
-        assert_eq!(rt; text_in(&rt, &bytes[0..at + row.n])?, (at, row.n));
+        assert_eq!(rt; text_in(&bytes[0..at + row.n])?, (at, row.n));
     }
     Ok(())
 }
