@@ -1,6 +1,5 @@
 use Rattle.std.proofs.Common.{◌≡◌, ℕ, ◌-◌, ◌≤◌, List, length, take, drop, Ok, Result, sym, ap, ◌∙◌, subst, arith, length-drop, take_all}
 use Rattle.std.proofs.lemmas.Bool.Decides.{nat_tests}
-use Rattle.run.specs.Runs.{Config}
 use Rattle.reader.specs.declared.reader.Reader.{Reader}
 use Rattle.job.specs.declared.refusal.Refusal.{Refusal}
 use Rattle.job.specs.Jobs.{admission, side_of, stream_of, drawn_text, job_text, shown, drawing_by, job_text_by, fit_answer, answer_by, leaves, Came, LeavesReader}

@@ -1,10 +1,9 @@
-use Rattle.std.proofs.Common.{◌≡◌, ℕ, List, ◌++◌, length, drop, None, Ok, Err, Result, ap, ◌∙◌, rules}
+use Rattle.std.proofs.Common.{◌≡◌, ℕ, List, ◌++◌, length, drop, None, Result, ap, ◌∙◌, rules}
 use Rattle.run.specs.Runs.{Config, run, finish}
 use Rattle.sheet.specs.Meanings.{blank}
 use Rattle.reader.specs.declared.reader.Reader.{Reader}
 use Rattle.play.specs.Plays.{New}
 use Rattle.job.specs.declared.refusal.Refusal.{Refusal}
-use Rattle.job.specs.declared.refusal.Refusal.TheVariants.{TooShort}
 use Rattle.job.specs.Jobs.{drawn_text, shown, drawing_by, fit_answer}
 use Rattle.job.proofs.draw.draw_on.Goals as goal
 
@@ -19,7 +18,7 @@ fits_new r n bs space o e new = e ∙ ap (λ (x : List ℕ). fit_answer (length 
 
 pub returns-in-Ok-clause-answer : goal.returns-in-Ok-clause-answer
 returns-in-Ok-clause-answer c =
-    fits_new c.args.reader.now c.args.side c.args.stream.now (length c.args.out.now) (Ok c.in-Ok.n) (search rules)
+    fits_new c.args.reader.now c.args.side c.args.stream.now (length c.args.out.now) _ (search rules)
 
 pub returns-in-Ok-clause-bytes : goal.returns-in-Ok-clause-bytes
 returns-in-Ok-clause-bytes c =
@@ -31,4 +30,4 @@ returns-in-Ok-clause-bytes c =
 
 pub returns-in-Err-clause-answer : goal.returns-in-Err-clause-answer
 returns-in-Err-clause-answer c =
-    fits_new c.args.reader.now c.args.side c.args.stream.now (length c.args.out.now) (Err TooShort) (search rules)
+    fits_new c.args.reader.now c.args.side c.args.stream.now (length c.args.out.now) _ (search rules)
