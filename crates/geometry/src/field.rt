@@ -2,7 +2,7 @@
 ghost use Rattle.std.specs.Prelude.{◌≡◌, ◌<◌, ◌≤◌, ◌⊎◌, MatchOption};
 
 // How many pixels a sheet has across, and down: 8 to 2,048.
-#[derive(Clone, Copy, Debug)]
+#[derive(Clone, Copy, Debug, PartialEq, Eq)]
 pub struct Side {
     pixels: u16,
     ghost least: { 8 ≤ pixels },
@@ -30,7 +30,7 @@ impl Side {
 }
 
 // A point of the field; y goes up.
-#[derive(Clone, Copy, Debug, PartialEq, Eq)]
+#[derive(Clone, Copy, Debug, Default, PartialEq, Eq)]
 pub struct Point {
     pub x: i16,
     pub y: i16,

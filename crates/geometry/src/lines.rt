@@ -7,7 +7,7 @@ use crate::field::{Point, Side};
 use crate::places::pixel_of;
 
 // A line between the pixels of two points of the field.
-#[derive(Clone, Copy, Debug)]
+#[derive(Clone, Copy, Debug, PartialEq, Eq)]
 pub struct Line {
     from: (i32, i32),
     to: (i32, i32),

@@ -13,7 +13,7 @@ pub use coverage::{has_dot, letter_dot, letter_inks, line_inks, on_sheet};
 pub use laws::coverage_stands;
 
 // Which of its points a line inks.
-#[derive(Clone, Copy, Debug)]
+#[derive(Clone, Copy, Debug, PartialEq, Eq)]
 pub enum LineMode {
     Solid,
     Dashed,
@@ -21,7 +21,7 @@ pub enum LineMode {
 }
 
 // A mark, by its places on the field.
-#[derive(Clone, Copy, Debug)]
+#[derive(Clone, Copy, Debug, PartialEq, Eq)]
 pub enum Mark {
     Dot {
         at: Point,

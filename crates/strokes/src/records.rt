@@ -6,7 +6,7 @@ use geometry::Point;
 use mark::{LineMode, Mark};
 
 // Which mark a stroke keeps.
-#[derive(Clone, Copy)]
+#[derive(Clone, Copy, Debug, PartialEq, Eq)]
 pub enum Kind {
     Dot,
     Line,
@@ -14,7 +14,7 @@ pub enum Kind {
 }
 
 // A mark as a plotter takes it: of a dot only `from` counts, of a letter `from` and `code`.
-#[derive(Clone, Copy)]
+#[derive(Clone, Copy, Debug, PartialEq, Eq)]
 pub struct Stroke {
     pub kind: Kind,
     pub from: Point,
