@@ -1,22 +1,17 @@
 -- What the reading of arguments answers.
 use Rattle.std.specs.Prelude.{◌≡◌, ℕ, ◌+◌, ◌≤◌, cond, List, length, drop, Ok, Err, Result, nat_lt}
 use Rattle.std.specs.Borrow.{Bor}
-use Rattle.arguments.specs.declared.stop.Stop.{Stop}
-use Rattle.arguments.specs.declared.stop.Stop.TheVariants.{Wanting, Wrong}
+use Rattle.statement.specs.declared.types.Stop.{Stop}
+use Rattle.statement.specs.declared.types.Stop.TheVariants.{Wanting, Wrong}
 use Rattle.statement.specs.declared.types.Fault.TheVariants as fault
 use Rattle.statement.specs.declared.types.Part.{Part}
-use Rattle.statement.specs.declared.types.Statement.{Statement}
-use Rattle.statement.specs.Reading.{Shape, more, refused, whole, Front, wanting, wrong, found}
-use Rattle.statement.specs.Views.{bytes_of, said_by, LiesIn, PartsLie}
-use Rattle.statement.specs.Places.{StringStands, PartsStand}
+use Rattle.statement.specs.Reading.{Front, wanting, wrong, found}
+use Rattle.statement.specs.Views.{bytes_of, LiesIn}
+use Rattle.statement.specs.Places.{StringStands}
 
 abbrev pub stop_front : {A : Type 0} → Stop → Front A
 stop_front Wanting = wanting
 stop_front (Wrong f) = wrong f
-
-abbrev pub stop_shape : Stop → Shape
-stop_shape Wanting = more
-stop_shape (Wrong f) = refused f
 
 -- a count of two bytes is at least 128
 abbrev pub long_count_by : ℕ → Result ℕ Stop
@@ -42,18 +37,3 @@ StringLies (Err s) at bytes = Unit {0}
 abbrev pub StringStandsBy : ℕ → Result (Part × Bor (List ℕ)) Stop → Type 0
 StringStandsBy at (Ok p) = StringStands at p.0
 StringStandsBy at (Err s) = Unit {0}
-
--- a statement
-abbrev pub shape_by : Result Statement Stop → Shape
-shape_by (Ok s) = whole (said_by s)
-shape_by (Err s) = stop_shape s
-
--- every name and text of the statement is a part of these bytes, at the place that it has
-abbrev pub PartsBy : Result Statement Stop → List ℕ → Type 0
-PartsBy (Ok s) bs = PartsLie s bs
-PartsBy (Err s) bs = Unit {0}
-
--- every name and text of the statement stands at its place in it
-abbrev pub PartsStandBy : Result Statement Stop → Type 0
-PartsStandBy (Ok s) = PartsStand s
-PartsStandBy (Err s) = Unit {0}

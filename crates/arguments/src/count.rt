@@ -3,14 +3,8 @@ ghost use Rattle.std.specs.Prelude.{◌≡◌, ◌+◌, ◌-◌, ◌*◌, ◌≤
 ghost use Rattle.statement.specs.Reading.{count, string};
 ghost use Rattle.arguments.specs.Stops.{long_count_by, count_front, string_front, StringLies, StringStandsBy};
 
-use crate::stop::Stop;
-use statement::types::{Fault, Part};
-
-// The longest string.
-pub const LONGEST_STRING: usize = 512;
-
-// The longest name.
-pub const LONGEST_NAME: usize = 8;
+use statement::limits::LONGEST_NAME;
+use statement::types::{Fault, Part, Stop};
 
 // The count of two bytes.
 fn long_count(high: u8, low: u8) -> Result<usize, Stop>
@@ -19,7 +13,7 @@ fn long_count(high: u8, low: u8) -> Result<usize, Stop>
 {
     let n = (high as usize - 128) * 256 + low as usize;
     if n < 128 {
-        Err(Stop::Wrong(Fault::ShortCount))
+        Err(Fault::ShortCount.into())
     } else {
         Ok(n)
     }
@@ -45,7 +39,7 @@ pub(crate) fn read_string(limit: usize, at: usize, bytes: &[u8]) -> Result<(Part
 {
     let (n, rest) = read_count(bytes)?;
     if n > limit {
-        return Err(Stop::Wrong(Fault::TooLong));
+        return Err(Fault::TooLong.into());
     }
     if rest.len() < n {
         return Err(Stop::Wanting);

@@ -4,5 +4,4 @@
 pub mod count;
 pub mod pair;
 pub mod plain;
-pub mod stop;
 pub mod text;

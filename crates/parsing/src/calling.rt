@@ -1,32 +1,27 @@
 // Calls.
 ghost use Rattle.std.specs.Prelude.{◌≡◌, ℕ, ◌+◌, ◌≤◌, List, ◌∷◌, length, take, drop, Some};
 ghost use Rattle.statement.specs.Reading.{onto, string, tail_of, tailed, calling};
-ghost use Rattle.arguments.specs.Stops.{shape_by, PartsBy, PartsStandBy};
-ghost use Rattle.statement.specs.Views.{bytes_of, tail_said, LiesIn, TailLies};
-ghost use Rattle.statement.specs.Places.{StringStands, TailStands};
+ghost use Rattle.statement.specs.Views.{bytes_of, tail_said, shape_of, LiesIn, TailLies, ReadingLies};
+ghost use Rattle.statement.specs.Places.{StringStands, TailStands, ReadingStands};
 
 use crate::tail::read_tail;
 use arguments::count::read_name;
-use arguments::stop::Stop;
 use statement::letters::is_name;
-use statement::types::{Fault, Part, Statement, Tail};
-
-// The longest tail.
-const LONGEST_TAIL: u8 = 14;
+use statement::limits::LONGEST_TAIL;
+use statement::types::{Fault, Part, Statement, Stop, Tail};
 
 // The call of a name with a tail.
 fn call_of<'a>(name: Part<'a>, tail: Tail<'a>) -> Result<Statement<'a>, Stop>
-    ensures value { shape_by result ≡ tailed (bytes_of name.entry) (Some (tail_said tail.entry)) }
-    ensures parts { (bs : List ℕ) → LiesIn name.entry bs → TailLies tail.entry bs → PartsBy result bs }
-    ensures stands { StringStands 1 name.entry → TailStands (name.entry.at + length (bytes_of name.entry) + 2) tail.entry → PartsStandBy result }
+    ensures value { shape_of result ≡ tailed (bytes_of name.entry) (Some (tail_said tail.entry)) }
+    ensures parts { (bs : List ℕ) → LiesIn name.entry bs → TailLies tail.entry bs → ReadingLies result bs }
+    ensures stands { StringStands 1 name.entry → TailStands (name.entry.at + length (bytes_of name.entry) + 2) tail.entry → ReadingStands result }
 {
     if !tail.has_lawful_point() {
-        return Err(Stop::Wrong(Fault::WrongCoordinate));
-    }
-    if is_name(name.bytes) && tail.has_lawful_name() {
+        Err(Fault::WrongCoordinate.into())
+    } else if is_name(name.bytes) && tail.has_lawful_name() {
         Ok(Statement::Insts(name, tail))
     } else {
-        Err(Stop::Wrong(Fault::WrongCharacter))
+        Err(Fault::WrongCharacter.into())
     }
 }
 
@@ -34,28 +29,26 @@ fn call_of<'a>(name: Part<'a>, tail: Tail<'a>) -> Result<Statement<'a>, Stop>
 fn call_to<'a>(name: Part<'a>, bytes: &'a [u8]) -> Result<Statement<'a>, Stop>
     requires place { name.at ≤ 3 }
     requires size { length (bytes_of name) ≤ 8 }
-    ensures value { shape_by result ≡ tailed (bytes_of name.entry) (tail_of bytes.now) }
-    ensures parts { (bs : List ℕ) → LiesIn name.entry bs → take (length bytes.now) (drop (name.entry.at + length (bytes_of name.entry) + 1) bs) ≡ bytes.now → PartsBy result bs }
-    ensures stands { StringStands 1 name.entry → PartsStandBy result }
+    ensures value { shape_of result ≡ tailed (bytes_of name.entry) (tail_of bytes.now) }
+    ensures parts { (bs : List ℕ) → LiesIn name.entry bs → take (length bytes.now) (drop (name.entry.at + length (bytes_of name.entry) + 1) bs) ≡ bytes.now → ReadingLies result bs }
+    ensures stands { StringStands 1 name.entry → ReadingStands result }
 {
     let at = name.at + name.bytes.len() + 1;
-    match read_tail(at, bytes) {
-        Some(tail) => call_of(name, tail),
-        None => Err(Stop::Wrong(Fault::WrongLayout)),
-    }
+    let tail = read_tail(at, bytes).ok_or(Fault::WrongLayout)?;
+    call_of(name, tail)
 }
 
 // The call of a name; `rest` is what follows the name.
 fn call_with<'a>(name: Part<'a>, rest: &'a [u8]) -> Result<Statement<'a>, Stop>
     requires place { name.at ≤ 3 }
     requires size { length (bytes_of name) ≤ 8 }
-    ensures value { shape_by result ≡ calling (bytes_of name.entry) rest.now }
-    ensures parts { (bs : List ℕ) → LiesIn name.entry bs → drop (name.entry.at + length (bytes_of name.entry)) bs ≡ rest.now → PartsBy result bs }
-    ensures stands { StringStands 1 name.entry → PartsStandBy result }
+    ensures value { shape_of result ≡ calling (bytes_of name.entry) rest.now }
+    ensures parts { (bs : List ℕ) → LiesIn name.entry bs → drop (name.entry.at + length (bytes_of name.entry)) bs ≡ rest.now → ReadingLies result bs }
+    ensures stands { StringStands 1 name.entry → ReadingStands result }
 {
     match rest {
         [] => Err(Stop::Wanting),
-        [t, ..] if *t > LONGEST_TAIL => Err(Stop::Wrong(Fault::WrongLayout)),
+        [t, ..] if *t as usize > LONGEST_TAIL => Err(Fault::WrongLayout.into()),
         [t, bytes @ ..] if bytes.len() < *t as usize => Err(Stop::Wanting),
         [t, bytes @ ..] => call_to(name, &bytes[0..*t as usize]),
     }
@@ -63,9 +56,9 @@ fn call_with<'a>(name: Part<'a>, rest: &'a [u8]) -> Result<Statement<'a>, Stop>
 
 // The statement of a name and a tail; `rest` is what follows the code.
 pub(crate) fn read_call(rest: &[u8]) -> Result<Statement<'_>, Stop>
-    ensures value { shape_by result ≡ onto (string 8 rest.now) calling }
-    ensures parts { (code : ℕ) → PartsBy result (code ∷ rest.now) }
-    ensures stands { PartsStandBy result }
+    ensures value { shape_of result ≡ onto (string 8 rest.now) calling }
+    ensures parts { (code : ℕ) → ReadingLies result (code ∷ rest.now) }
+    ensures stands { ReadingStands result }
 {
     let (name, after) = read_name(rest)?;
     call_with(name, after)

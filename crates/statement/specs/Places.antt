@@ -1,13 +1,14 @@
 -- At which place of a statement its name, its text and its AS name stand, counted from its code.
-use Rattle.std.specs.Prelude.{◌≡◌, ℕ, ◌+◌, cond, length, Some, None, Option, nat_lt}
+use Rattle.std.specs.Prelude.{◌≡◌, ℕ, ◌+◌, cond, List, length, Some, None, Option, Ok, Err, Result, nat_lt}
 use Rattle.statement.specs.declared.types.Part.{Part}
 use Rattle.statement.specs.declared.types.Tail.{Tail}
 use Rattle.statement.specs.declared.types.Tail.TheVariants as tail
 use Rattle.statement.specs.declared.types.Statement.{Statement}
 use Rattle.statement.specs.declared.types.Statement.TheVariants as stmt
-use Rattle.statement.specs.declared.types.Reading.{Reading}
-use Rattle.statement.specs.declared.types.Reading.TheVariants as came
-use Rattle.statement.specs.Views.{bytes_of}
+use Rattle.statement.specs.declared.types.Stop.{Stop}
+use Rattle.statement.specs.declared.layout.Bare.{Bare}
+use Rattle.statement.specs.Statements.{alone}
+use Rattle.statement.specs.Views.{bytes_of, said_by, PartsLie}
 
 -- how many bytes a count takes
 abbrev pub count_size : ℕ → ℕ
@@ -51,7 +52,13 @@ PartsStand stmt.Mark = Unit {0}
 PartsStand stmt.Movemk = Unit {0}
 PartsStand stmt.Drawmk = Unit {0}
 
-abbrev pub ReadingStands : Reading → Type 0
-ReadingStands came.More = Unit {0}
-ReadingStands (came.Refused f) = Unit {0}
-ReadingStands (came.Whole s) = PartsStand s
+-- the same of the statement that was read, if any
+abbrev pub ReadingStands : Result Statement Stop → Type 0
+ReadingStands (Ok s) = PartsStand s
+ReadingStands (Err e) = Unit {0}
+
+-- a statement is that of a code alone, and has no name or text
+pub record StatesAlone (b : Bare) (s : Statement) : Type 0 where
+  pub said : said_by s ≡ alone b
+  pub parts : (bs : List ℕ) → PartsLie s bs
+  pub stands : PartsStand s

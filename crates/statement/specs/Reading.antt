@@ -1,6 +1,7 @@
 -- What the bytes of a statement so far are: more is wanted, refused, or a whole statement.
 use Rattle.std.specs.Prelude.{ℕ, ◌+◌, ◌-◌, ◌*◌, Bool, true, false, cond, ◌&&◌, ◌||◌, List, [], ◌∷◌, length, take, drop, ℤ, pos, negsuc, Some, None, Option, ◌==◌, int_le, nat_le, nat_lt}
 use Rattle.std.specs.Int.{w16}
+use Rattle.std.specs.List.{list_all}
 use Rattle.std.proofs.Common.{to_z}
 use Rattle.statement.specs.declared.layout.Trace.{Trace}
 use Rattle.statement.specs.declared.layout.Aim.{Aim}
@@ -71,8 +72,7 @@ pair t a (b ∷ c ∷ d ∷ e ∷ rest) = travelled t a (coordinate b c) (coordi
 
 -- text codes are at most 127
 abbrev pub is_text : List ℕ → Bool
-is_text [] = true
-is_text (b ∷ bs) = nat_le b 127 && is_text bs
+is_text bs = list_all (λ b. nat_le b 127) bs
 
 abbrev pub texted : Manner → List ℕ → List ℕ → Shape
 texted m t rest = cond (is_text t) (whole (act (plain (letters m t)))) (refused fault.WrongCharacter)
@@ -93,8 +93,7 @@ abbrev pub is_name_code : ℕ → Bool
 is_name_code c = (nat_le 65 c && nat_le c 90) || (nat_le 48 c && nat_le c 57)
 
 abbrev pub are_name_codes : List ℕ → Bool
-are_name_codes [] = true
-are_name_codes (c ∷ cs) = is_name_code c && are_name_codes cs
+are_name_codes cs = list_all is_name_code cs
 
 -- a name has at least one character
 abbrev pub is_name : List ℕ → Bool
@@ -103,6 +102,12 @@ is_name (c ∷ cs) = are_name_codes (c ∷ cs)
 
 abbrev pub header_of : ℕ → Option Header
 header_of h = cond (h == 0x80) (Some header.Simple) (cond (h == 0x40) (Some header.Full) (cond (h == 0xC0) (Some header.Both) None))
+
+-- the byte of a header
+abbrev pub header_byte : Header → ℕ
+header_byte header.Simple = 0x80
+header_byte header.Full = 0x40
+header_byte header.Both = 0xC0
 
 abbrev pub titled : List ℕ → Option Header → Shape
 titled n None = refused fault.WrongLayout

@@ -1,5 +1,5 @@
 -- What the values of the code say.
-use Rattle.std.specs.Prelude.{◌≡◌, ℕ, List, length, take, drop, Some, None, Option}
+use Rattle.std.specs.Prelude.{◌≡◌, ℕ, List, length, take, drop, Some, None, Option, Ok, Err, Result}
 use Rattle.std.specs.Option.{option_map}
 use Rattle.statement.specs.declared.layout.Trace.TheVariants as trace
 use Rattle.statement.specs.declared.layout.Aim.TheVariants as aim
@@ -12,8 +12,8 @@ use Rattle.statement.specs.declared.types.Tail.{Tail}
 use Rattle.statement.specs.declared.types.Tail.TheVariants as tail
 use Rattle.statement.specs.declared.types.Statement.{Statement}
 use Rattle.statement.specs.declared.types.Statement.TheVariants as stmt
-use Rattle.statement.specs.declared.types.Reading.{Reading}
-use Rattle.statement.specs.declared.types.Reading.TheVariants as came
+use Rattle.statement.specs.declared.types.Stop.{Stop}
+use Rattle.statement.specs.declared.types.Stop.TheVariants.{Wanting, Wrong}
 use Rattle.statement.specs.Statements.{CallTail, empty, coded, null, travel, letters, escape, assign, mark, movemk, drawmk, plain, call, Said, erase, endpic, subhed, subend, act}
 use Rattle.statement.specs.Reading.{Shape, more, refused, whole}
 
@@ -59,10 +59,11 @@ said_by stmt.Mark = act (plain mark)
 said_by stmt.Movemk = act (plain movemk)
 said_by stmt.Drawmk = act (plain drawmk)
 
-abbrev pub shape_of : Reading → Shape
-shape_of came.More = more
-shape_of (came.Refused f) = refused f
-shape_of (came.Whole s) = whole (said_by s)
+-- what the reading of a statement answers
+abbrev pub shape_of : Result Statement Stop → Shape
+shape_of (Ok s) = whole (said_by s)
+shape_of (Err Wanting) = more
+shape_of (Err (Wrong f)) = refused f
 
 -- a part lies in the bytes where it says
 abbrev pub LiesIn : Part → List ℕ → Type 0
@@ -100,7 +101,7 @@ PartsLie stmt.Mark bs = Unit {0}
 PartsLie stmt.Movemk bs = Unit {0}
 PartsLie stmt.Drawmk bs = Unit {0}
 
-abbrev pub ReadingLies : Reading → List ℕ → Type 0
-ReadingLies came.More bs = Unit {0}
-ReadingLies (came.Refused f) bs = Unit {0}
-ReadingLies (came.Whole s) bs = PartsLie s bs
+-- the same of the statement that was read, if any
+abbrev pub ReadingLies : Result Statement Stop → List ℕ → Type 0
+ReadingLies (Ok s) bs = PartsLie s bs
+ReadingLies (Err e) bs = Unit {0}

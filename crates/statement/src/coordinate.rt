@@ -16,7 +16,7 @@ pub fn is_lawful(aim: Aim, v: i16) -> bool
     ensures { result ≡ lawful aim v }
 {
     match aim {
-        Aim::Absolute => v >= -16384 && v <= 16383,
-        Aim::Relative => v >= -32767,
+        Aim::Absolute => (-16384..=16383).contains(&v),
+        Aim::Relative => v != i16::MIN,
     }
 }

@@ -1,7 +1,7 @@
 // The codes of the statements, and what follows each code.
 
 // What the beam leaves on its way to a point.
-#[derive(Clone, Copy)]
+#[derive(Clone, Copy, Debug, PartialEq, Eq)]
 pub enum Trace {
     // nothing: MOVEA, MOVER
     Blank,
@@ -12,14 +12,14 @@ pub enum Trace {
 }
 
 // How a pair of coordinates is meant.
-#[derive(Clone, Copy)]
+#[derive(Clone, Copy, Debug, PartialEq, Eq)]
 pub enum Aim {
     Absolute,
     Relative,
 }
 
 // How a text is set.
-#[derive(Clone, Copy)]
+#[derive(Clone, Copy, Debug, PartialEq, Eq)]
 pub enum Manner {
     // TEXT: the beam stays behind the last letter
     Onward,
@@ -30,7 +30,7 @@ pub enum Manner {
 }
 
 // What a value sets.
-#[derive(Clone, Copy)]
+#[derive(Clone, Copy, Debug, PartialEq, Eq)]
 pub enum Setting {
     // LINMOD
     LineMode,
@@ -39,7 +39,7 @@ pub enum Setting {
 }
 
 // The statements that are a code alone.
-#[derive(Clone, Copy)]
+#[derive(Clone, Copy, Debug, PartialEq, Eq)]
 pub enum Bare {
     Null,
     Erase,
@@ -51,7 +51,7 @@ pub enum Bare {
 }
 
 // What follows a code.
-#[derive(Clone, Copy)]
+#[derive(Clone, Copy, Debug, PartialEq, Eq)]
 pub enum Layout {
     // nothing
     Bare(Bare),

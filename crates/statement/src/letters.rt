@@ -1,24 +1,12 @@
 // The characters of texts and names.
-ghost use Rattle.std.specs.Prelude.{◌≡◌, nat_le};
+ghost use Rattle.std.specs.Prelude.{◌≡◌};
 ghost use Rattle.statement.specs.Reading.{is_text, is_name_code, are_name_codes, is_name};
-
-// Whether a byte is a text code.
-fn is_text_code(code: u8) -> bool
-    ensures { result ≡ nat_le code 127 }
-{
-    code <= 127
-}
 
 // Whether all bytes are text codes.
 pub fn is_text(bytes: &[u8]) -> bool
     ensures { result ≡ is_text bytes.now }
 {
-    for b in bytes {
-        if !is_text_code(*b) {
-            return false;
-        }
-    }
-    true
+    bytes.iter().all(|code| *code <= 127)
 }
 
 // Whether a byte is a capital letter or a digit.
@@ -32,12 +20,7 @@ fn is_name_code(code: u8) -> bool
 pub fn are_name_codes(bytes: &[u8]) -> bool
     ensures { result ≡ are_name_codes bytes.now }
 {
-    for b in bytes {
-        if !is_name_code(*b) {
-            return false;
-        }
-    }
-    true
+    bytes.iter().all(|code| is_name_code(*code))
 }
 
 // Whether the bytes are a name.

@@ -9,15 +9,6 @@ impl Fault {
     pub fn number(self) -> u8
         ensures { result ≡ fault_number self }
     {
-        match self {
-            Fault::UnknownCode => 1,
-            Fault::Misplaced => 2,
-            Fault::ShortCount => 3,
-            Fault::TooLong => 4,
-            Fault::WrongCharacter => 5,
-            Fault::WrongCoordinate => 6,
-            Fault::WrongLayout => 7,
-            Fault::StreamTooLong => 15,
-        }
+        self as u8
     }
 }

@@ -1,61 +1,60 @@
 // Statements, where they may stand, and why bytes are refused.
 
 // Where a definition was begun, and so where its end leads back to.
-#[derive(Clone, Copy)]
+#[derive(Clone, Copy, Debug, PartialEq, Eq)]
 pub enum Home {
     Outside,
     Picture,
 }
 
 // Where a statement stands.
-#[derive(Clone, Copy)]
+#[derive(Clone, Copy, Debug, PartialEq, Eq)]
 pub enum Standing {
     Outside,
     Picture,
     Definition(Home),
 }
 
-// Why the bytes of a statement are refused.
-#[derive(Clone, Copy)]
+// Why the bytes of a statement are refused, each reason by its number.
+#[derive(Clone, Copy, Debug, PartialEq, Eq)]
 pub enum Fault {
     // a code above 20
-    UnknownCode,
+    UnknownCode = 1,
     // a code that may not come here
-    Misplaced,
+    Misplaced = 2,
     // a count of two bytes that one byte could hold
-    ShortCount,
+    ShortCount = 3,
     // a string over 512 bytes, or a name over 8
-    TooLong,
+    TooLong = 4,
     // a text code above 127, or a wrong or missing character of a name
-    WrongCharacter,
+    WrongCharacter = 5,
     // a coordinate that is not lawful
-    WrongCoordinate,
+    WrongCoordinate = 6,
     // a wrong header, second byte of SUBHED, or tail
-    WrongLayout,
+    WrongLayout = 7,
     // a byte past the longest stream
-    StreamTooLong,
+    StreamTooLong = 15,
 }
 
-// Which calls a definition is for.
-#[derive(Clone, Copy)]
+// Which calls a definition is for, each kind by its byte.
+#[derive(Clone, Copy, Debug, PartialEq, Eq)]
 pub enum Header {
-    // hex 80: simple calls
-    Simple,
-    // hex 40: turned and enlarged calls
-    Full,
-    // hex C0: both
-    Both,
+    // simple calls
+    Simple = 0x80,
+    // turned and enlarged calls
+    Full = 0x40,
+    Both = 0xC0,
 }
 
 // A part of a statement's own bytes, with the place where it begins in them.
-#[derive(Clone, Copy)]
+#[derive(Clone, Copy, Debug, PartialEq, Eq)]
 pub struct Part<'a> {
     pub at: usize,
     pub bytes: &'a [u8],
 }
 
 // The tail of a call.
-#[derive(Clone, Copy)]
+#[derive(Clone, Copy, Debug, PartialEq, Eq)]
 pub enum Tail<'a> {
     // no byte
     Empty,
@@ -67,7 +66,7 @@ pub enum Tail<'a> {
 }
 
 // A statement, its names and texts as parts of its own bytes.
-#[derive(Clone, Copy)]
+#[derive(Clone, Copy, Debug, PartialEq, Eq)]
 pub enum Statement<'a> {
     Null,
     Erase,
@@ -92,10 +91,10 @@ pub enum Statement<'a> {
     Drawmk,
 }
 
-// What the bytes of a statement so far are.
-#[derive(Clone, Copy)]
-pub enum Reading<'a> {
-    More,
-    Refused(Fault),
-    Whole(Statement<'a>),
+// Why no whole statement, or part of one, stands at the front of the bytes.
+#[derive(Clone, Copy, Debug, PartialEq, Eq)]
+pub enum Stop {
+    // its bytes are not all there yet
+    Wanting,
+    Wrong(Fault),
 }

@@ -1,8 +1,7 @@
 // Counts at their bounds.
-use crate::seen::{Answer, answer_to};
+use crate::fronts::is_wanting_to_its_end;
 use parsing::read::read;
-use statement::types::{Reading, Standing, Statement};
-use std::test::Fail;
+use statement::types::{Part, Standing, Statement};
 
 // The bytes of a count, and what it counts.
 struct Count {
@@ -41,42 +40,21 @@ static COUNTS: [Count; 7] = [
     },
 ];
 
-// A TEXT of that count, and letters enough.
-fn counted(count: &[u8]) -> [u8; 515] {
-    let mut bytes = [b'A'; 515];
-    bytes[0] = 8;
-    match count {
-        [] => {}
-        [n] => bytes[1] = *n,
-        [high, low, ..] => {
-            bytes[1] = *high;
-            bytes[2] = *low;
-        }
-    }
-    bytes
-}
-
-// The place and the length of the text, which is whole at the last byte.
-fn text_in(bytes: &[u8]) -> Result<(usize, usize), Fail> {
-    for k in 0..bytes.len() {
-        if answer_to(Standing::Picture, &bytes[0..k]) != Answer::More {
-            return Err(Fail::new("whole or refused before its end"));
-        }
-    }
-    match read(Standing::Picture, bytes) {
-        Reading::Whole(Statement::Text(text)) => Ok((text.at, text.bytes.len())),
-        _ => Err(Fail::new("not a text")),
-    }
-}
-
 #[test]
-fn texts_end_where_they_are_counted_to(rt: HostRuntime) -> Result<(), Fail> {
+fn texts_end_where_they_are_counted_to(rt: HostRuntime) {
     for row in &COUNTS {
-        let bytes = counted(row.bytes);
         let at = row.bytes.len() + 1;
         assert!(rt; at <= 3);
         assert!(rt; row.n <= 512);
-        assert_eq!(rt; text_in(&bytes[0..at + row.n])?, (at, row.n));
+        let mut bytes = [b'A'; 515];
+        bytes[0] = 8;
+        bytes[1..at].copy_from_slice(row.bytes);
+        let bytes = &bytes[..at + row.n];
+        let text = Part {
+            at,
+            bytes: &bytes[at..],
+        };
+        assert!(rt; is_wanting_to_its_end(Standing::Picture, bytes));
+        assert_eq!(rt; read(Standing::Picture, bytes), Ok(Statement::Text(text)));
     }
-    Ok(())
 }

@@ -4,8 +4,8 @@
 #[cfg(test)]
 mod counts;
 #[cfg(test)]
+mod fronts;
+#[cfg(test)]
 mod refusals;
 #[cfg(test)]
 mod samples;
-#[cfg(test)]
-mod seen;

@@ -1,6 +1,8 @@
 // Refusals, each at its exact byte.
-use crate::seen::{Answer, answer_to};
-use statement::types::{Home, Standing};
+use crate::fronts::is_wanting_to_its_end;
+use parsing::read::read;
+use statement::types::{Home, Standing, Stop};
+use std::test::Fail;
 
 const OUTSIDE: Standing = Standing::Outside;
 
@@ -88,14 +90,13 @@ static REFUSALS: [Refusal; 59] = [
 ];
 
 #[test]
-fn refused_at_the_last_byte(rt: HostRuntime) {
+fn refused_at_the_last_byte(rt: HostRuntime) -> Result<(), Fail> {
     for row in &REFUSALS {
-        for k in 0..row.bytes.len() {
-            assert_eq!(rt; answer_to(row.standing, &row.bytes[0..k]), Answer::More);
-        }
-        assert_eq!(rt;
-            answer_to(row.standing, row.bytes),
-            Answer::Refused(row.number)
-        );
+        assert!(rt; is_wanting_to_its_end(row.standing, row.bytes));
+        let Err(Stop::Wrong(fault)) = read(row.standing, row.bytes) else {
+            return Err(Fail::new("not refused"));
+        };
+        assert_eq!(rt; fault.number(), row.number);
     }
+    Ok(())
 }

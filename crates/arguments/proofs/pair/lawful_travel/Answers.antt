@@ -8,7 +8,7 @@ pub returns-then-is_lawful-2 : goal.returns-then-is_lawful-2
 returns-then-is_lawful-2 c =
     let x : SFits w16 c.args.x = c.ranges.x in
     let y : SFits w16 c.args.y = c.ranges.y in
-    let said = simp to_z-of_z at c.travel_of.ensures.said in
+    let said = simp to_z-of_z at c.travel.ensures.said in
     let p = simp to_z-of_z at c.if-is_lawful.ensures in
     let q = simp to_z-of_z at c.if-is_lawful-2.ensures in
-    record { value = ap whole said ∙ sym (cond-true _ _ _ (and_from _ _ (sym p) (sym q))); parts = c.travel_of.ensures.parts; stands = c.travel_of.ensures.stands }
+    record { value = ap whole said ∙ sym (cond-true _ _ _ (and_from _ _ (sym p) (sym q))); parts = c.travel.ensures.parts; stands = c.travel.ensures.stands }

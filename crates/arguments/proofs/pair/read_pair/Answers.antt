@@ -3,7 +3,7 @@ use Rattle.std.proofs.lemmas.Int.{to_z-of_z}
 use Rattle.statement.specs.declared.layout.Trace.{Trace}
 use Rattle.statement.specs.declared.layout.Aim.{Aim}
 use Rattle.statement.specs.Reading.{Shape, coordinate, travelled, pair}
-use Rattle.arguments.specs.Stops.{shape_by}
+use Rattle.statement.specs.Views.{shape_of}
 use Rattle.arguments.proofs.pair.read_pair.Goals as goal
 
 four :
@@ -20,7 +20,7 @@ returns-in-len4-up c =
     let x = to_z-of_z w16 c.coordinate_of.result (record { sfits = c.coordinate_of.type_inv }) ∙ c.coordinate_of.ensures in
     let y = to_z-of_z w16 c.coordinate_of-in-len4-up.result (record { sfits = c.coordinate_of-in-len4-up.type_inv }) ∙ c.coordinate_of-in-len4-up.ensures in
     record {
-      value = four c.args.trace c.args.aim c.args.rest.now (shape_by c.lawful_travel.result) (search rules) (c.lawful_travel.ensures.value ∙ simp (x, y));
+      value = four c.args.trace c.args.aim c.args.rest.now (shape_of c.lawful_travel.result) (search rules) (c.lawful_travel.ensures.value ∙ simp (x, y));
       parts = c.lawful_travel.ensures.parts;
       stands = c.lawful_travel.ensures.stands;
     }
