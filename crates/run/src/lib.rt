@@ -3,5 +3,6 @@
 
 pub mod laws;
 pub mod numbers;
+mod refusing;
 pub mod types;
 pub mod written;

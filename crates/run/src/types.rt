@@ -2,7 +2,7 @@
 use geometry::Point;
 
 // Why a stream is refused.
-#[derive(Clone, Copy)]
+#[derive(Clone, Copy, Debug, PartialEq, Eq)]
 pub enum Fault {
     // the bytes or the statement itself
     Read(statement::types::Fault),
@@ -27,7 +27,7 @@ pub enum Fault {
 }
 
 // The layer that refuses.
-#[derive(Clone, Copy)]
+#[derive(Clone, Copy, Debug, PartialEq, Eq)]
 pub enum Layer {
     Bytes,
     Statement,
@@ -36,14 +36,14 @@ pub enum Layer {
 }
 
 // Where in the called bodies a statement stands: how many calls are open, and its offset in the innermost body.
-#[derive(Clone, Copy)]
+#[derive(Clone, Copy, Debug, PartialEq, Eq)]
 pub struct Spot {
     pub calls: usize,
     pub offset: usize,
 }
 
 // A refusal: the fault, the place of the code of the stream's statement, and the spot in its calls.
-#[derive(Clone, Copy)]
+#[derive(Clone, Copy, Debug, PartialEq, Eq)]
 pub struct Refusal {
     pub fault: Fault,
     pub place: usize,
@@ -51,7 +51,7 @@ pub struct Refusal {
 }
 
 // Whether a run goes on.
-#[derive(Clone, Copy)]
+#[derive(Clone, Copy, Debug, PartialEq, Eq)]
 pub enum Life {
     Live,
     Closed,
@@ -59,7 +59,7 @@ pub enum Life {
 }
 
 // What is told of a run.
-#[derive(Clone, Copy)]
+#[derive(Clone, Copy, Debug, PartialEq, Eq)]
 pub struct Report {
     pub read: usize,
     pub pictures: usize,
