@@ -1,17 +1,23 @@
-// Statements spelt into a buffer.
-ghost use Rattle.std.specs.Prelude.{◌≡◌, ◌+◌, ◌≤◌, length, Ok};
-ghost use Rattle.std.proofs.lemmas.List.Edits.{sets};
+// Statements spelt, by themselves or into a buffer.
+ghost use Rattle.std.specs.Prelude.{◌≡◌, ◌+◌, ◌≤◌, [], ◌++◌, length, Some, MatchResult};
+ghost use Rattle.arrayvec.specs.ArrayVec.{array_vec_len};
 ghost use Rattle.statement.specs.Views.{said_by};
-ghost use Rattle.spelling.specs.Answers.{over_front, spell_answer, spelled, ReadsAs};
-ghost use Rattle.spelling.specs.Spelling.{header_byte, spell, spell_arguments, Lawful};
+ghost use Rattle.spelling.specs.Answers.{spell_answer, spelled, ReadsAs};
+ghost use Rattle.spelling.specs.Spelling.{fault_of, header_byte, spell, spell_arguments, Lawful};
 
 use crate::put::{put, put_pair, put_string};
 use crate::tail::put_tail;
+use arrayvec::ArrayVec;
 use spelling::code::code_of;
-use spelling::extent::extent;
 use spelling::faults::fault_of;
 use spelling::refusal::Unspelt;
-use statement::types::{Header, Statement};
+use statement::types::{Fault, Header, Statement};
+
+// The longest spelling of a lawful statement.
+pub const LONGEST_SPELLING: usize = 516;
+
+// The spelling of a statement, or the front of one.
+pub type Spelling = ArrayVec<u8, LONGEST_SPELLING>;
 
 // The byte of a header.
 fn header_byte(header: Header) -> u8
@@ -24,51 +30,61 @@ fn header_byte(header: Header) -> u8
     }
 }
 
-// Writes the arguments of a lawful statement from a place on, and gives the place after them.
-fn put_arguments(buffer: &mut [u8], place: usize, statement: Statement<'_>) -> usize
+// Adds the arguments of a lawful statement.
+fn put_arguments(out: &mut Spelling, statement: Statement<'_>)
     requires fits { Lawful (said_by statement) }
-    requires room { place + length (spell_arguments (said_by statement)) ≤ length buffer.old }
-    ensures after { result ≡ place + length (spell_arguments (said_by statement.entry)) }
-    ensures bytes { buffer.new ≡ sets buffer.old place (spell_arguments (said_by statement.entry)) }
+    requires room { array_vec_len out.old + length (spell_arguments (said_by statement)) ≤ LONGEST_SPELLING }
+    ensures { out.new.items ≡ out.old.items ++ spell_arguments (said_by statement.entry) }
 {
     match statement {
         Statement::Movea(x, y) | Statement::Drawa(x, y) | Statement::Dota(x, y) => {
-            put_pair(buffer, place, x, y)
+            put_pair(out, x, y)
         }
         Statement::Mover(x, y) | Statement::Drawr(x, y) | Statement::Dotr(x, y) => {
-            put_pair(buffer, place, x, y)
+            put_pair(out, x, y)
         }
         Statement::Text(text) | Statement::Textr(text) | Statement::Texto(text) => {
-            put_string(buffer, place, text.bytes)
+            put_string(out, text.bytes)
         }
         Statement::Escdev(value, text) => {
-            let next = put(buffer, place, &[value]);
-            put_string(buffer, next, text.bytes)
+            out.push(value);
+            put_string(out, text.bytes);
         }
-        Statement::Linmod(value) | Statement::Setint(value) => put(buffer, place, &[value]),
+        Statement::Linmod(value) | Statement::Setint(value) => out.push(value),
         Statement::Subhed(name, header) => {
-            let next = put_string(buffer, place, name.bytes);
-            put(buffer, next, &[1, header_byte(header)])
+            put_string(out, name.bytes);
+            put(out, &[1, header_byte(header)]);
         }
         Statement::Insts(name, tail) => {
-            let next = put_string(buffer, place, name.bytes);
-            put_tail(buffer, next, tail)
+            put_string(out, name.bytes);
+            put_tail(out, tail);
         }
-        Statement::Null | Statement::Erase | Statement::Endpic | Statement::Subend => place,
-        Statement::Mark | Statement::Movemk | Statement::Drawmk => place,
+        Statement::Null | Statement::Erase | Statement::Endpic | Statement::Subend => {}
+        Statement::Mark | Statement::Movemk | Statement::Drawmk => {}
     }
 }
 
-// Spells a lawful statement that the buffer has room for into its front, and gives the spelling's length.
-fn put_statement(statement: Statement<'_>, buffer: &mut [u8]) -> usize
-    requires fits { Lawful (said_by statement) }
-    requires room { length (spell (said_by statement)) ≤ length buffer.old }
-    ensures size { result ≡ length (spell (said_by statement.entry)) }
-    ensures bytes { buffer.new ≡ over_front (spell (said_by statement.entry)) buffer.old }
-    ensures reads { ReadsAs (Ok result) buffer.new (said_by statement.entry) }
+// The spelling of a lawful statement.
+fn spelt(statement: Statement<'_>) -> Spelling
+    requires { Lawful (said_by statement) }
+    ensures { result.items ≡ spell (said_by statement.entry) }
 {
-    let next = put(buffer, 0, &[code_of(&statement)]);
-    put_arguments(buffer, next, statement)
+    let mut out = Spelling::new();
+    out.push(code_of(&statement));
+    put_arguments(&mut out, statement);
+    out
+}
+
+// The spelling of a statement, or why it is not lawful.
+pub fn spelling_of(statement: Statement<'_>) -> Result<Spelling, Fault>
+    ensures { MatchResult result
+        (λ v. (v.items ≡ spell (said_by statement.entry)) × Lawful (said_by statement.entry))
+        (λ f. fault_of (said_by statement.entry) ≡ Some f) }
+{
+    match fault_of(&statement) {
+        Some(fault) => Err(fault),
+        None => Ok(spelt(statement)),
+    }
 }
 
 // Spells a statement into the front of a buffer, or refuses and alters no byte.
@@ -77,11 +93,11 @@ pub fn spell(statement: Statement<'_>, buffer: &mut [u8]) -> Result<usize, Unspe
     ensures bytes { buffer.new ≡ spelled result (spell (said_by statement.entry)) buffer.old }
     ensures reads { ReadsAs result buffer.new (said_by statement.entry) }
 {
-    if let Some(fault) = fault_of(&statement) {
-        return Err(Unspelt::Fault(fault));
-    }
-    if buffer.len() < extent(&statement) {
+    let spelling = spelling_of(statement).map_err(Unspelt::Fault)?;
+    let size = spelling.len();
+    if buffer.len() < size {
         return Err(Unspelt::Room);
     }
-    Ok(put_statement(statement, buffer))
+    buffer[..size].copy_from_slice(spelling.as_slice());
+    Ok(size)
 }
