@@ -3,7 +3,8 @@ ghost use Rattle.std.specs.Prelude.{◌≡◌, ◌+◌, ◌≤◌, ◌++◌, len
 ghost use Rattle.arrayvec.specs.ArrayVec.{array_vec_len};
 ghost use Rattle.spelling.specs.Spelling.{spell_string, spell_pair};
 
-use crate::spell::{LONGEST_SPELLING, Spelling};
+use crate::spell::Spelling;
+use statement::limits::LONGEST_SPELLING;
 
 // Adds bytes.
 pub(crate) fn put(out: &mut Spelling, bytes: &[u8])

@@ -3,7 +3,7 @@ ghost use Rattle.std.specs.Prelude.{◌≡◌, ◌+◌, ◌≤◌, [], ◌++◌,
 ghost use Rattle.arrayvec.specs.ArrayVec.{array_vec_len};
 ghost use Rattle.statement.specs.Views.{said_by};
 ghost use Rattle.spelling.specs.Answers.{spell_answer, spelled, ReadsAs};
-ghost use Rattle.spelling.specs.Spelling.{fault_of, header_byte, spell, spell_arguments, Lawful};
+ghost use Rattle.spelling.specs.Spelling.{fault_of, spell, spell_arguments, Lawful};
 
 use crate::put::{put, put_pair, put_string};
 use crate::tail::put_tail;
@@ -11,24 +11,11 @@ use arrayvec::ArrayVec;
 use spelling::code::code_of;
 use spelling::faults::fault_of;
 use spelling::refusal::Unspelt;
-use statement::types::{Fault, Header, Statement};
-
-// The longest spelling of a lawful statement.
-pub const LONGEST_SPELLING: usize = 516;
+use statement::limits::LONGEST_SPELLING;
+use statement::types::{Fault, Statement};
 
 // The spelling of a statement, or the front of one.
 pub type Spelling = ArrayVec<u8, LONGEST_SPELLING>;
-
-// The byte of a header.
-fn header_byte(header: Header) -> u8
-    ensures { result ≡ header_byte header }
-{
-    match header {
-        Header::Simple => 0x80,
-        Header::Full => 0x40,
-        Header::Both => 0xC0,
-    }
-}
 
 // Adds the arguments of a lawful statement.
 fn put_arguments(out: &mut Spelling, statement: Statement<'_>)
@@ -53,7 +40,7 @@ fn put_arguments(out: &mut Spelling, statement: Statement<'_>)
         Statement::Linmod(value) | Statement::Setint(value) => out.push(value),
         Statement::Subhed(name, header) => {
             put_string(out, name.bytes);
-            put(out, &[1, header_byte(header)]);
+            put(out, &[1, header.into()]);
         }
         Statement::Insts(name, tail) => {
             put_string(out, name.bytes);
@@ -93,7 +80,7 @@ pub fn spell(statement: Statement<'_>, buffer: &mut [u8]) -> Result<usize, Unspe
     ensures bytes { buffer.new ≡ spelled result (spell (said_by statement.entry)) buffer.old }
     ensures reads { ReadsAs result buffer.new (said_by statement.entry) }
 {
-    let spelling = spelling_of(statement).map_err(Unspelt::Fault)?;
+    let spelling = spelling_of(statement)?;
     let size = spelling.len();
     if buffer.len() < size {
         return Err(Unspelt::Room);

@@ -6,8 +6,9 @@ ghost use Rattle.statement.specs.Views.{bytes_of, tail_said};
 ghost use Rattle.spelling.specs.Spelling.{spell_as, spell_at, tail_byte, spell_tail, as_length, tail_fits};
 
 use crate::put::{put, put_pair};
-use crate::spell::{LONGEST_SPELLING, Spelling};
+use crate::spell::Spelling;
 use spelling::extent::tail_extent;
+use statement::limits::LONGEST_SPELLING;
 use statement::types::{Part, Tail};
 
 // The code byte of a tail.

@@ -12,10 +12,9 @@ use Rattle.statement.specs.declared.layout.Setting.{Setting}
 use Rattle.statement.specs.declared.layout.Setting.TheVariants as setting
 use Rattle.statement.specs.declared.types.Fault.{Fault}
 use Rattle.statement.specs.declared.types.Fault.TheVariants as fault
-use Rattle.statement.specs.declared.types.Header.{Header}
-use Rattle.statement.specs.declared.types.Header.TheVariants as header
 use Rattle.statement.specs.Statements.{CallTail, empty, coded, Plain, null, travel, letters, escape, assign, mark, movemk, drawmk, Act, plain, call, Said, erase, endpic, subhed, subend, act}
 use Rattle.statement.specs.Reading.{lawful, is_text, is_name, lawful_tail, named_tail}
+pub use Rattle.statement.specs.Reading.{header_byte}
 
 abbrev pub travel_code : Trace → Aim → ℕ
 travel_code trace.Blank aim.Absolute = 2
@@ -64,11 +63,6 @@ spell_string t = spell_count (length t) ++ t
 
 abbrev pub spell_pair : ℤ → ℤ → List ℕ
 spell_pair x y = (of_z w16 x / 256) ∷ (of_z w16 x % 256) ∷ (of_z w16 y / 256) ∷ (of_z w16 y % 256) ∷ []
-
-abbrev pub header_byte : Header → ℕ
-header_byte header.Simple = 0x80
-header_byte header.Full = 0x40
-header_byte header.Both = 0xC0
 
 abbrev pub spell_as : Option (List ℕ) → List ℕ
 spell_as None = []
