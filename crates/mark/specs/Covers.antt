@@ -1,5 +1,6 @@
 -- Which pixels a mark covers on a sheet of n by n pixels.
-use Rattle.std.specs.Prelude.{ℕ, zero, suc, ◌-◌, ◌*◌, ◌/◌, ◌%◌, ◌^◌, Bool, true, false, ◌&&◌, ◌||◌, ℤ, pos, negsuc, ◌+ℤ◌, ◌-ℤ◌, ◌*ℤ◌, ◌==◌, int_le, int_lt, nat_lt}
+use Rattle.std.specs.Prelude.{ℕ, zero, suc, ◌-◌, ◌*◌, ◌/◌, ◌%◌, ◌^◌, Bool, true, false, ◌&&◌, ◌||◌, ℤ, pos, ◌+ℤ◌, ◌-ℤ◌, ◌*ℤ◌, ◌==◌, int_le, int_lt, nat_lt}
+use Rattle.std.specs.Ordering.{int_eq}
 use Rattle.geometry.specs.declared.field.Point.{Point}
 use Rattle.geometry.specs.Places.{pixel_of, point_pixel}
 use Rattle.geometry.specs.Lines.{steps_of, point_of}
@@ -14,14 +15,9 @@ abbrev pub any_below : (ℕ → Bool) → ℕ → Bool
 any_below test zero = false
 any_below test (suc n) = test n || any_below test n
 
-abbrev pub same_number : ℤ → ℤ → Bool
-same_number (pos a) (pos b) = a == b
-same_number (pos a) (negsuc b) = false
-same_number (negsuc a) (pos b) = false
-same_number (negsuc a) (negsuc b) = a == b
-
+-- both parts of the pixels are equal
 abbrev pub same_pixel : ℤ × ℤ → ℤ × ℤ → Bool
-same_pixel p q = same_number p.0 q.0 && same_number p.1 q.1
+same_pixel p q = int_eq p.0 q.0 && int_eq p.1 q.1
 
 -- both parts of the pixel are 0 to n - 1
 abbrev pub on_sheet : ℕ → ℤ × ℤ → Bool

@@ -1,6 +1,6 @@
 // Whether a part of a mark inks a pixel.
 ghost use Rattle.std.specs.Prelude.{◌≡◌, ◌*◌, pos, ◌+ℤ◌, ◌-ℤ◌, ◌*ℤ◌};
-ghost use Rattle.mark.specs.Covers.{same_pixel, on_sheet, has_dot, letter_dot, line_inks_at, letter_inks_at};
+ghost use Rattle.mark.specs.Covers.{on_sheet, has_dot, letter_dot, line_inks_at, letter_inks_at};
 
 use crate::LineMode;
 use geometry::{Line, Point, Side, pixel};
@@ -9,8 +9,8 @@ use geometry::{Line, Point, Side, pixel};
 pub fn on_sheet(side: Side, pixel: (i32, i32)) -> bool
     ensures { result ≡ on_sheet side.pixels pixel }
 {
-    let end = side.pixels() as i32;
-    0 <= pixel.0 && pixel.0 < end && 0 <= pixel.1 && pixel.1 < end
+    let places = 0..side.pixels() as i32;
+    places.contains(&pixel.0) && places.contains(&pixel.1)
 }
 
 // Whether the glyph of a code has a dot at that row and column.
@@ -39,22 +39,16 @@ fn dot_y(y: i16, row: u8) -> i32
     y as i32 + 75 * (6 - row as i32)
 }
 
-fn is_same(p: (i32, i32), q: (i32, i32)) -> bool
-    ensures { result ≡ same_pixel p q }
-{
-    p.0 == q.0 && p.1 == q.1
-}
-
 // Whether a line inks a pixel by its point k.
 pub fn line_inks(line: Line, mode: LineMode, k: u32, pixel: (i32, i32)) -> bool
     ensures { result ≡ line_inks_at line.from line.to mode pixel k }
 {
-    mode.inks(k) && is_same(line.point(k), pixel)
+    mode.inks(k) && line.point(k) == pixel
 }
 
 // Whether a letter inks a pixel by its dot at that row and column.
 pub fn letter_inks(side: Side, at: Point, code: u8, row: u8, column: u8, pixel: (i32, i32)) -> bool
     ensures { result ≡ letter_inks_at side.pixels at code pixel row column }
 {
-    has_dot(code, row, column) && is_same(letter_dot(side, at, row, column), pixel)
+    has_dot(code, row, column) && letter_dot(side, at, row, column) == pixel
 }

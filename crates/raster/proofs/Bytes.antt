@@ -1,9 +1,9 @@
--- The bits of the bytes after one is set, and after bytes are made 0.
+-- The bits of the bytes after one is set.
 use Rattle.std.proofs.Common.{◌≡◌, ℕ, zero, suc, ◌+◌, ◌-◌, ◌*◌, ◌/◌, ◌%◌, ◌^◌, ◌<◌, Bool, true, false, ◌&&◌, ◌||◌, eqb, List, length, get_or, set, sym, refl, ap, ◌∙◌, subst, inl, inr, arith, lit<, get_or-set_other, get_or-set_same}
-use native.Mathlib.Nat.{zero-div}
 use lib.Bits.{bit_or}
 use Rattle.std.proofs.lemmas.Nat.{or_shr, or_mod, mul-add-lt, div-mul-add, mod-mul-add, mod_below}
 use Rattle.std.proofs.lemmas.Bool.{eqb-true, eq-eqb, ne_eqb, cases_eq, and_left, and_right, or_from}
+use Rattle.std.proofs.Math.Bool.{or-false}
 use Rattle.font.proofs.Below.{all_below, passes}
 use Rattle.raster.specs.Bits.{row_bytes, page_bytes, bit_of, with_bit, bit_at, Clean}
 
@@ -68,10 +68,6 @@ not_both x c y r f =
       | inr p ↦ and_left (eqb x c) (eqb y r) (ne_eqb x c p)
     ]
 
-pub or_false : (a : Bool) → (a || false) ≡ a
-or_false true = refl
-or_false false = refl
-
 -- the bit at column c, row r, after that of column x, row y is set
 pub bit_set : (n : ℕ) (bytes : List ℕ) (x y c r : ℕ) → x < n → y < n → c / 8 < row_bytes n → length bytes ≡ page_bytes n
     → bit_at n (set bytes (y * row_bytes n + x / 8) (with_bit (get_or bytes (y * row_bytes n + x / 8) 0) (x % 8))) c r ≡ (bit_at n bytes c r || (eqb x c && eqb y r))
@@ -87,7 +83,7 @@ bit_set n bytes x y c r h g l e =
           ∙ (λ i. bit_of (get_or bytes (sym same i) 0) (c % 8) || columns x c y r both.0 both.1 i)
       | inr other ↦
           ap (λ (b : ℕ). bit_of b (c % 8)) (get_or-set_other bytes (y * row_bytes n + x / 8) (r * row_bytes n + c / 8) v 0 other)
-          ∙ sym (or_false (bit_at n bytes c r))
+          ∙ sym (or-false (bit_at n bytes c r))
           ∙ ap (λ (b : Bool). bit_at n bytes c r || b) (sym (not_both x c y r (λ p q. other (λ i. sym q i * row_bytes n + sym p i / 8))))
     ]
 
@@ -95,23 +91,3 @@ pub clean_set : (n : ℕ) (bytes : List ℕ) (x y : ℕ) → x < n → y < n →
 clean_set n bytes x y h g e clean c r spare =
     bit_set n bytes x y c r h g (omega arith) e
     ∙ or_from (bit_at n bytes c r) (eqb x c && eqb y r) (clean c r spare) (and_left (eqb x c) (eqb y r) (ne_eqb x c (λ p. omega arith)))
-
--- a byte that is 0 has no bit
-pub no_bit : (b k : ℕ) → b ≡ 0 → bit_of b k ≡ false
-no_bit b k e = ap (λ (x : ℕ). bit_of x k) e ∙ ap (λ (x : ℕ). eqb (x % 2) 1) (zero-div (2 ^ (7 - k)))
-
-pub clean_zero : (n i : ℕ) (bytes : List ℕ) → i < length bytes → Clean n bytes → Clean n (set bytes i 0)
-clean_zero n i bytes h clean c r spare =
-    elim (cases_eq (r * row_bytes n + c / 8) i) [
-      | inl same ↦ no_bit (get_or (set bytes i 0) (r * row_bytes n + c / 8) 0) (c % 8) (ap (λ (k : ℕ). get_or (set bytes i 0) k 0) same ∙ get_or-set_same bytes i 0 0 h)
-      | inr other ↦ ap (λ (b : ℕ). bit_of b (c % 8)) (get_or-set_other bytes i (r * row_bytes n + c / 8) 0 0 other) ∙ clean c r spare
-    ]
-
--- every byte is 0
-abbrev pub Zeros : List ℕ → Type 0
-Zeros bytes = (k : ℕ) → k < length bytes → get_or bytes k 0 ≡ 0
-
-pub zeros_clean : (n : ℕ) (bytes : List ℕ) → Zeros bytes → length bytes ≡ page_bytes n → Clean n bytes
-zeros_clean n bytes zeros e c r spare =
-    let p : r * row_bytes n + c / 8 < length bytes = subst (λ (m : ℕ). r * row_bytes n + c / 8 < m) (sym e) (mul-add-lt r (row_bytes n) (c / 8) n spare.0 (omega arith)) in
-    no_bit (get_or bytes (r * row_bytes n + c / 8) 0) (c % 8) (zeros (r * row_bytes n + c / 8) p)

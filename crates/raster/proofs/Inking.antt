@@ -1,15 +1,18 @@
--- What the pixels of a page are after one is inked, or all are wiped.
-use Rattle.std.proofs.Common.{◌≡◌, ℕ, ◌+◌, ◌%◌, ◌<◌, Bool, true, false, ◌&&◌, ◌||◌, eqb, List, length, get_or, ℤ, pos, negsuc, nat_abs, None, sym, refl, ap, ◌∙◌, subst, inl, inr, add-one}
+-- What the pixels of a page are after one is inked.
+use Rattle.std.proofs.Common.{◌≡◌, ℕ, ◌+◌, ◌<◌, Bool, true, false, ◌&&◌, ◌||◌, eqb, List, length, ℤ, pos, negsuc, nat_abs, None, sym, refl, ap, ◌∙◌, subst, inl, inr, add-one, arith}
 use lib.Signed.{lt_z, le_z, non_neg}
-use Rattle.std.proofs.lemmas.Bool.{eqb-true, ltb-true, cases_Bool, and_parts, and_left, and_right, false≢true}
+use Rattle.std.specs.Ordering.{int_eq}
+use Rattle.std.proofs.lemmas.Bool.Decides.{Decides-int_eq, nat_tests}
+use Rattle.std.proofs.Math.Bool.{or-false}
+use Rattle.std.proofs.lemmas.Bool.{ltb-true, cases_Bool, and_parts, and_left, and_right, false≢true}
 use Rattle.geometry.specs.declared.field.Point.{Point}
 use Rattle.geometry.specs.Lines.{point_of}
 use Rattle.mark.specs.declared.LineMode.{LineMode}
 use Rattle.mark.specs.declared.Mark.{Mark}
-use Rattle.mark.specs.Covers.{on_sheet, same_pixel, same_number, any_below, inks_point, line_inks_at, has_dot, letter_dot, letter_inks_at, covers, reaches}
-use Rattle.sheet.specs.Meanings.{gains, blank}
+use Rattle.mark.specs.Covers.{on_sheet, same_pixel, any_below, inks_point, line_inks_at, has_dot, letter_dot, letter_inks_at, covers, reaches}
+use Rattle.sheet.specs.Meanings.{gains}
 use Rattle.raster.specs.Bits.{page_bytes, bit_at, inked_at, byte_of, with_pixel, Gained, bit_meaning}
-use Rattle.raster.proofs.Bytes.{within_row, within_page, bit_set, or_false, no_bit, Zeros}
+use Rattle.raster.proofs.Bytes.{within_row, within_page, bit_set}
 
 part_on : (n : ℕ) (a : ℤ) → le_z (pos 0) a ≡ true → lt_z a (pos n) ≡ true → (nat_abs a < n) × (non_neg a ≡ true)
 part_on n (pos m) h g = (ltb-true m n g, refl)
@@ -28,8 +31,8 @@ byte_within n len z on e =
     let o = on_within n z on in
     subst (λ (m : ℕ). byte_of n z < m) (sym e) (within_page n (nat_abs z.0) (nat_abs z.1) o.0.0 o.1.0)
 
-same_nat : (a b : ℤ) → non_neg a ≡ true → non_neg b ≡ true → same_number a b ≡ eqb (nat_abs a) (nat_abs b)
-same_nat (pos a) (pos b) h g = refl
+same_nat : (a b : ℤ) → non_neg a ≡ true → non_neg b ≡ true → int_eq a b ≡ eqb (nat_abs a) (nat_abs b)
+same_nat (pos a) (pos b) h g = grind (arith, nat_tests)
 same_nat (pos a) (negsuc b) h g = absurd (false≢true g)
 same_nat (negsuc a) b h g = absurd (false≢true h)
 
@@ -48,41 +51,24 @@ ink_on n bytes z e on w =
     ∙ ap (λ (t : Bool). bit_at n bytes (nat_abs w.0) (nat_abs w.1) || t)
     (sym (λ i. same_nat z.0 w.0 a.0.1 b.0.1 i && same_nat z.1 w.1 a.1.1 b.1.1 i)))
 
-number_is : (a b : ℤ) → same_number a b ≡ true → a ≡ b
-number_is (pos a) (pos b) t = ap pos (eqb-true a b t)
-number_is (pos a) (negsuc b) t = absurd (false≢true t)
-number_is (negsuc a) (pos b) t = absurd (false≢true t)
-number_is (negsuc a) (negsuc b) t = ap negsuc (eqb-true a b t)
-
 -- equal pixels are both on the sheet
 off_same : (n : ℕ) (z w : ℤ × ℤ) → on_sheet n z ≡ false → (on_sheet n w && same_pixel z w) ≡ false
 off_same n z w off =
     elim (cases_Bool (same_pixel z w)) [
       | inl t ↦
-          let p = and_parts (same_number z.0 w.0) (same_number z.1 w.1) t in
-          let x = number_is z.0 w.0 p.0 in
-          let y = number_is z.1 w.1 p.1 in
+          let p = and_parts (int_eq z.0 w.0) (int_eq z.1 w.1) t in
+          let x = (Decides-int_eq z.0 w.0).0 p.0 in
+          let y = (Decides-int_eq z.1 w.1).0 p.1 in
           and_left (on_sheet n w) (same_pixel z w) (sym (λ i. on_sheet n (x i, y i)) ∙ off)
       | inr f ↦ and_right (on_sheet n w) (same_pixel z w) f
     ]
 
 none_gained : (a b : Bool) → b ≡ false → a ≡ (a || b)
-none_gained a b e = sym (or_false a) ∙ ap (λ (x : Bool). a || x) (sym e)
+none_gained a b e = sym (or-false a) ∙ ap (λ (x : Bool). a || x) (sym e)
 
 -- a pixel off the sheet changes nothing
 pub ink_off : (n : ℕ) (bytes : List ℕ) (z : ℤ × ℤ) → on_sheet n z ≡ false → Gained n bytes bytes (same_pixel z)
 ink_off n bytes z off w = none_gained (inked_at n bytes w) (on_sheet n w && same_pixel z w) (off_same n z w off)
-
--- bytes that are all 0 ink nothing
-zeros_ink : (n : ℕ) (bytes : List ℕ) (z : ℤ × ℤ) → Zeros bytes → length bytes ≡ page_bytes n → inked_at n bytes z ≡ false
-zeros_ink n bytes z zeros e =
-    elim (cases_Bool (on_sheet n z)) [
-      | inl on ↦ and_right (on_sheet n z) (bit_at n bytes (nat_abs z.0) (nat_abs z.1)) (no_bit (get_or bytes (byte_of n z) 0) (nat_abs z.0 % 8) (zeros (byte_of n z) (byte_within n (length bytes) z on e)))
-      | inr off ↦ and_left (on_sheet n z) (bit_at n bytes (nat_abs z.0) (nat_abs z.1)) off
-    ]
-
-pub zeros_blank : (n m : ℕ) (bytes : List ℕ) → m ≡ n → Zeros bytes → length bytes ≡ page_bytes m → bit_meaning m bytes ≡ blank n None
-zeros_blank n m bytes e zeros l = λ i. record { side = e i; inked = λ z. zeros_ink m bytes z zeros l i; stock = None; full = None }
 
 more : (a o p q : Bool) → ((a || (o && p)) || (o && q)) ≡ (a || (o && (q || p)))
 more true o p q = refl

@@ -1,14 +1,15 @@
 -- Whether a bit sheet can be made, and what is drawn on it.
-use Rattle.std.specs.Prelude.{◌≡◌, ℕ, cond, List, None, Ok, Err, Result, ◌==◌, nat_lt}
+use Rattle.std.specs.Prelude.{◌≡◌, ℕ, cond, List, None, Ok, Err, Result, ◌==◌}
 use Rattle.mark.specs.declared.Mark.{Mark}
 use Rattle.sheet.specs.declared.refusals.Unfit.{Unfit}
-use Rattle.sheet.specs.declared.refusals.Unfit.TheVariants.{Side, Memory}
+use Rattle.sheet.specs.declared.refusals.Unfit.TheVariants.{Memory}
+use Rattle.sheet.specs.Refusals.{sided}
 use Rattle.sheet.specs.Meanings.{marked_all, blank}
 use Rattle.raster.specs.Bits.{page_bytes, bit_meaning, Clean}
 
 -- the answer to the asking for a side over memory of a length: the side is looked at first
 abbrev pub asked : ℕ → ℕ → Result (Unit {0}) Unfit
-asked n len = cond (nat_lt n 8) (Err Side) (cond (nat_lt 2048 n) (Err Side) (cond (len == page_bytes n) (Ok tt) (Err Memory)))
+asked n len = sided n (cond (len == page_bytes n) (Ok tt) (Err Memory))
 
 -- the memory after marks are drawn on a clear page in it, by the answer: unchanged where that refuses
 abbrev pub Drawn : ℕ → List Mark → List ℕ → List ℕ → Result (Unit {0}) Unfit → Type 0

@@ -7,4 +7,4 @@ mod page;
 
 pub use asking::ask;
 pub use drawing::draw_page;
-pub use page::{BitSheet, make};
+pub use page::{BitSheet, make, page_bytes};

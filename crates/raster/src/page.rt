@@ -18,13 +18,21 @@ pub struct BitSheet<'a> {
 }
 
 // How many bytes a row of so many pixels has.
-pub(crate) fn row_bytes(pixels: u16) -> usize
+fn row_bytes(pixels: u16) -> usize
     ensures { result ≡ row_bytes pixels }
 {
-    (pixels as usize + 7) / 8
+    (pixels as usize).div_ceil(8)
+}
+
+// How many bytes the page of a side has.
+pub fn page_bytes(side: u16) -> usize
+    ensures { result ≡ page_bytes side }
+{
+    row_bytes(side) * side as usize
 }
 
 // The byte with the bit set that stands at place k from the left.
+#[tactic(auto, using(crate::proofs::Bytes::mask_is))]
 fn with_bit(b: u8, k: u8) -> u8
     requires { k < 8 }
     ensures { result ≡ with_bit b k }
@@ -100,8 +108,6 @@ impl<'a> BitSheet<'a> {
         ensures after { bit_meaning self.new.side.pixels self.new.bytes.now ≡ cleared (bit_meaning self.old.side.pixels self.old.bytes.now) }
         ensures named { self.new.bytes.ghost_name ≡ self.old.bytes.ghost_name }
     {
-        for i in 0..self.bytes.len() {
-            self.bytes[i] = 0;
-        }
+        self.bytes.fill(0);
     }
 }

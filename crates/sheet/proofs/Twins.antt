@@ -2,6 +2,7 @@
 use Rattle.std.proofs.Common.{◌≡◌, ℕ, zero, suc, ◌+◌, ◌<◌, ◌≤◌, Bool, true, false, ◌&&◌, List, [], ◌∷◌, length, get_or, drop, is_ok, Some, None, Ok, Err, Option, Result, sym, refl, ap, ◌∙◌}
 use Rattle.std.proofs.lemmas.List.{drop_more, drop_all}
 use Rattle.std.proofs.lemmas.Bool.{and_from}
+use Rattle.std.proofs.Math.Bool.{and-true}
 use Rattle.mark.specs.declared.Mark.{Mark}
 use Rattle.sheet.specs.declared.refusals.Refusal.{Refusal}
 use Rattle.sheet.specs.declared.refusals.Refusal.TheVariants.{Full}
@@ -37,10 +38,6 @@ own_answers a (m ∷ ms) = and_from (same_answer (answer a) (answer a)) (same_an
 one_more : (so once first rest whole : Bool) → once ≡ first → (so && (first && rest)) ≡ whole → ((so && once) && rest) ≡ whole
 one_more true once first rest whole e inv = ap (λ (x : Bool). x && rest) e ∙ inv
 one_more false once first rest whole e inv = inv
-
-and_true : (x : Bool) → (x && true) ≡ x
-and_true true = refl
-and_true false = refl
 
 pub alike_answers : (a b : Meaning) (ms : List Mark) → Alike a b → same_answers a b ms ≡ true
 alike_answers a b ms h = ap (λ (c : Meaning). same_answers a c ms) (sym (alike_same a b h)) ∙ own_answers a ms
@@ -78,7 +75,7 @@ module _ (ms : List Mark) (i : ℕ) where
 
   pub answers_end : (a b : Meaning) (same whole : Bool) → length ms ≤ i → (same && same_answers a b (drop i ms)) ≡ whole → same ≡ whole
   answers_end a b same whole h inv =
-      sym (and_true same) ∙ sym (ap (λ (l : List Mark). same && same_answers a b l) (drop_all i ms h)) ∙ inv
+      sym (and-true same) ∙ sym (ap (λ (l : List Mark). same && same_answers a b l) (drop_all i ms h)) ∙ inv
 
   pub takes_more : (d : Mark) (a after : Meaning) (taken once whole : Bool) → i < length ms → after ≡ marked a (get_or ms i d) → once ≡ is_ok (answer a)
       → (taken && takes_all a (drop i ms)) ≡ whole → ((taken && once) && takes_all after (drop (i + 1) ms)) ≡ whole
@@ -89,4 +86,4 @@ module _ (ms : List Mark) (i : ℕ) where
 
   pub takes_end : (a : Meaning) (taken whole : Bool) → length ms ≤ i → (taken && takes_all a (drop i ms)) ≡ whole → taken ≡ whole
   takes_end a taken whole h inv =
-      sym (and_true taken) ∙ sym (ap (λ (l : List Mark). taken && takes_all a l) (drop_all i ms h)) ∙ inv
+      sym (and-true taken) ∙ sym (ap (λ (l : List Mark). taken && takes_all a l) (drop_all i ms h)) ∙ inv

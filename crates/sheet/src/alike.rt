@@ -3,18 +3,14 @@ ghost use Rattle.std.specs.Prelude.{◌≡◌, true, not, ◌&&◌, is_ok};
 ghost use Rattle.sheet.specs.Alike.{Alike, same_answer, same_answers};
 ghost use Rattle.sheet.specs.Meanings.{answer, marked, marked_all, takes_all};
 
-use crate::{Refusal, Sheet};
+use crate::Sheet;
 use mark::Mark;
 
 // Whether a sheet refuses the next mark.
 pub fn is_full<S: Sheet>(sheet: &S) -> bool
     ensures { result ≡ not (is_ok (answer (S.meaning sheet.now))) }
 {
-    match sheet.stock() {
-        Some(0) => true,
-        Some(_) => false,
-        None => false,
-    }
+    sheet.stock() == Some(0)
 }
 
 // Puts one mark after another on a sheet, and says whether it took them all.
@@ -24,21 +20,12 @@ pub fn draw<S: Sheet>(sheet: &mut S, marks: &[Mark]) -> bool
     ensures side { (S.meaning sheet.new).side ≡ (S.meaning sheet.old).side }
     ensures tied { S.tied sheet.new ≡ S.tied sheet.old }
 {
+    // A loop and no fold: its closure would change the sheet, and the proof of that did not close.
     let mut taken = true;
     for mark in marks {
         taken &= sheet.mark(*mark).is_ok();
     }
     taken
-}
-
-fn is_same(a: Result<(), Refusal>, b: Result<(), Refusal>) -> bool
-    ensures { result ≡ same_answer a b }
-{
-    match (a, b) {
-        (Ok(()), Ok(())) => true,
-        (Err(Refusal::Full), Err(Refusal::Full)) => true,
-        _ => false,
-    }
 }
 
 // Puts a mark on two sheets, and says whether they gave the same answer.
@@ -49,9 +36,7 @@ pub fn mark_both<A: Sheet, B: Sheet>(a: &mut A, b: &mut B, mark: Mark) -> bool
     ensures first_tied { A.tied a.new ≡ A.tied a.old }
     ensures second_tied { B.tied b.new ≡ B.tied b.old }
 {
-    let first = a.mark(mark);
-    let second = b.mark(mark);
-    is_same(first, second)
+    a.mark(mark) == b.mark(mark)
 }
 
 // Puts one mark after another on two sheets, and says whether they gave the same answers; sheets that were alike stay so.
@@ -63,6 +48,7 @@ pub fn draw_both<A: Sheet, B: Sheet>(a: &mut A, b: &mut B, marks: &[Mark]) -> bo
     ensures first_tied { A.tied a.new ≡ A.tied a.old }
     ensures second_tied { B.tied b.new ≡ B.tied b.old }
 {
+    // A loop and no fold, for the same reason as in `draw`.
     let mut same = true;
     for mark in marks {
         same &= mark_both(a, b, *mark);

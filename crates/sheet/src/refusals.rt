@@ -6,16 +6,16 @@ ghost use Rattle.sheet.specs.Refusals.{refusal_number, unfit_number};
 #[derive(Clone, Copy, Debug, PartialEq, Eq)]
 pub enum Refusal {
     // The stock is used up.
-    Full,
+    Full = 17,
 }
 
 // Why a sheet cannot be made.
 #[derive(Clone, Copy, Debug, PartialEq, Eq)]
 pub enum Unfit {
     // The side is not 8 to 2,048.
-    Side,
+    Side = 18,
     // The memory is not as long as a sheet of that side asks.
-    Memory,
+    Memory = 19,
 }
 
 impl Refusal {
@@ -23,9 +23,7 @@ impl Refusal {
     pub fn number(self) -> u8
         ensures { result ≡ refusal_number self }
     {
-        match self {
-            Refusal::Full => 17,
-        }
+        self as u8
     }
 }
 
@@ -34,9 +32,6 @@ impl Unfit {
     pub fn number(self) -> u8
         ensures { result ≡ unfit_number self }
     {
-        match self {
-            Unfit::Side => 18,
-            Unfit::Memory => 19,
-        }
+        self as u8
     }
 }

@@ -39,53 +39,52 @@ fn points_go_to_their_pixels(rt: HostRuntime) -> Result<(), Fail> {
             return Err(Fail::new("no such side"));
         };
         let row = pixels as i64 - 1 - place as i64;
-        assert!(rt; pixel_of(side, Point { x: v, y: 0 }).0 == place);
-        assert!(rt; pixel_of(side, Point { x: 0, y: v }).1 as i64 == row);
+        assert_eq!(rt; pixel_of(side, Point { x: v, y: 0 }).0, place);
+        assert_eq!(rt; pixel_of(side, Point { x: 0, y: v }).1 as i64, row);
     }
     Ok(())
 }
 
+fn at(x: i16, y: i16) -> Point {
+    Point { x, y }
+}
+
 // Lines at side 8: the ends, and the pixels of the points 0 to 4, of which those past the line's end are its end.
 // The pixel of (-16384, 12288) is (0, 0), and pixels lie 4096 apart.
-const LINES: [((i16, i16), (i16, i16), [(i32, i32); 5]); 4] = [
-    (
-        (-16384, 12288),
-        (0, 4096),
-        [(0, 0), (1, 1), (2, 1), (3, 2), (4, 2)],
-    ),
-    (
-        (0, 4096),
-        (-16384, 12288),
-        [(4, 2), (3, 2), (2, 1), (1, 1), (0, 0)],
-    ),
-    (
-        (-16384, 12288),
-        (-12288, 0),
-        [(0, 0), (0, 1), (1, 2), (1, 3), (1, 3)],
-    ),
-    (
-        (-8192, 4096),
-        (-8192, 4096),
-        [(2, 2), (2, 2), (2, 2), (2, 2), (2, 2)],
-    ),
-];
+fn lines() -> [(Point, Point, [(i32, i32); 5]); 4] {
+    [
+        (
+            at(-16384, 12288),
+            at(0, 4096),
+            [(0, 0), (1, 1), (2, 1), (3, 2), (4, 2)],
+        ),
+        (
+            at(0, 4096),
+            at(-16384, 12288),
+            [(4, 2), (3, 2), (2, 1), (1, 1), (0, 0)],
+        ),
+        (
+            at(-16384, 12288),
+            at(-12288, 0),
+            [(0, 0), (0, 1), (1, 2), (1, 3), (1, 3)],
+        ),
+        (
+            at(-8192, 4096),
+            at(-8192, 4096),
+            [(2, 2), (2, 2), (2, 2), (2, 2), (2, 2)],
+        ),
+    ]
+}
 
 #[test]
 fn lines_have_their_points(rt: HostRuntime) -> Result<(), Fail> {
     let Some(side) = Side::new(8) else {
         return Err(Fail::new("no side 8"));
     };
-    for (from, to, points) in LINES {
-        let from = Point {
-            x: from.0,
-            y: from.1,
-        };
-        let to = Point { x: to.0, y: to.1 };
+    for (from, to, points) in lines() {
         let line = Line::between(side, from, to);
-        for k in 0..5u32 {
-            let point = line.point(k);
-            let expected = points[k as usize];
-            assert!(rt; point.0 == expected.0 && point.1 == expected.1);
+        for (k, point) in points.into_iter().enumerate() {
+            assert_eq!(rt; line.point(k as u32), point);
         }
     }
     Ok(())
@@ -109,7 +108,7 @@ const MODES: [(u32, bool, bool); 10] = [
 fn modes_ink_their_points(rt: HostRuntime) {
     for (k, dashed, dotted) in MODES {
         assert!(rt; LineMode::Solid.inks(k));
-        assert!(rt; LineMode::Dashed.inks(k) == dashed);
-        assert!(rt; LineMode::Dotted.inks(k) == dotted);
+        assert_eq!(rt; LineMode::Dashed.inks(k), dashed);
+        assert_eq!(rt; LineMode::Dotted.inks(k), dotted);
     }
 }

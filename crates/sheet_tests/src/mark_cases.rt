@@ -1,7 +1,7 @@
 // Marks on both kinds of sheet.
 use geometry::Point;
 use mark::{LineMode, Mark};
-use sheet::{Sheet, Unfit, mark_both};
+use sheet::{Sheet, mark_both};
 use std::test::Fail;
 use strokes::Stroke;
 
@@ -80,7 +80,7 @@ fn draws_alike<A: Sheet, B: Sheet>(
 #[test]
 fn marks_at_side_8(rt: HostRuntime) -> Result<(), Fail> {
     let mut memory = [0u8; 8];
-    let mut records = [Stroke::of(dot(0, 0))];
+    let mut records = [Stroke::from(dot(0, 0))];
     raster::ask(8, &memory)?;
     strokes::ask(8, &records)?;
     let mut bits = raster::make(8, &mut memory);
@@ -94,7 +94,7 @@ fn marks_at_side_8(rt: HostRuntime) -> Result<(), Fail> {
 #[test]
 fn marks_at_side_9(rt: HostRuntime) -> Result<(), Fail> {
     let mut memory = [0u8; 18];
-    let mut records = [Stroke::of(dot(0, 0))];
+    let mut records = [Stroke::from(dot(0, 0))];
     raster::ask(9, &memory)?;
     strokes::ask(9, &records)?;
     let mut bits = raster::make(9, &mut memory);
@@ -108,7 +108,7 @@ fn marks_at_side_9(rt: HostRuntime) -> Result<(), Fail> {
 #[test]
 fn all_marks_and_one_too_many(rt: HostRuntime) -> Result<(), Fail> {
     let mut memory = [0u8; 18];
-    let mut records = [Stroke::of(dot(0, 0)); 16];
+    let mut records = [Stroke::from(dot(0, 0)); 16];
     raster::ask(9, &memory)?;
     strokes::ask(9, &records)?;
     let mut bits = raster::make(9, &mut memory);
@@ -138,22 +138,13 @@ fn inks_corners<S: Sheet>(sheet: &mut S, pixels: u16) -> bool {
         && !sheet.inked((last + 1, last))
 }
 
-// Puts the dots on a bit sheet of that side, in the front of a memory.
-fn inks_bit_corners(memory: &mut [u8], pixels: u16, len: usize) -> Result<bool, Unfit> {
-    if len > memory.len() {
-        return Ok(false);
-    }
-    let part = &mut memory[0..len];
-    raster::ask(pixels, part)?;
-    let mut bits = raster::make(pixels, part);
-    Ok(inks_corners(&mut bits, pixels))
-}
-
 #[test]
 fn corners_of_bit_sheets(rt: HostRuntime) -> Result<(), Fail> {
     for (pixels, len) in SIDES {
-        let mut memory = vec![in rt.alloc(); 0u8; 524288]?;
-        assert!(rt; inks_bit_corners(&mut memory, pixels, len)?);
+        let mut memory = vec![in rt.alloc(); 0u8; len]?;
+        raster::ask(pixels, &memory)?;
+        let mut bits = raster::make(pixels, &mut memory);
+        assert!(rt; inks_corners(&mut bits, pixels));
     }
     Ok(())
 }
@@ -161,7 +152,7 @@ fn corners_of_bit_sheets(rt: HostRuntime) -> Result<(), Fail> {
 #[test]
 fn corners_of_stroke_tables(rt: HostRuntime) -> Result<(), Fail> {
     for (pixels, _) in SIDES {
-        let mut records = [Stroke::of(dot(0, 0)); 2];
+        let mut records = [Stroke::from(dot(0, 0)); 2];
         strokes::ask(pixels, &records)?;
         let mut table = strokes::make(pixels, &mut records);
         assert!(rt; inks_corners(&mut table, pixels));

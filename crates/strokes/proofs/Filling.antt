@@ -1,9 +1,8 @@
--- A stroke written to the first free record is one mark more; where no record is free nothing changes.
-use Rattle.std.proofs.Common.{◌≡◌, ℕ, suc, ◌+◌, ◌-◌, ◌<◌, ◌≤◌, List, length, set, Some, Ok, Err, sym, refl, ap, ◌∙◌, arith, length-set}
+-- A stroke written to the first free record is one mark more.
+use Rattle.std.proofs.Common.{◌≡◌, ℕ, suc, ◌+◌, ◌-◌, ◌<◌, List, length, set, Some, sym, refl, ap, ◌∙◌, arith, length-set}
 use Rattle.mark.specs.declared.Mark.{Mark}
 use Rattle.mark.specs.declared.Mark.TheVariants.{Dot, Line, Letter}
-use Rattle.sheet.specs.declared.refusals.Refusal.TheVariants.{Full}
-use Rattle.sheet.specs.Meanings.{answer, answer_by, marked, marked_by}
+use Rattle.sheet.specs.Meanings.{marked, marked_by}
 use Rattle.strokes.specs.declared.records.Stroke.{Stroke}
 use Rattle.strokes.specs.Strokes.{mark_of, stroke_of}
 use Rattle.strokes.specs.Tables.{table_meaning}
@@ -19,9 +18,6 @@ module _ (n k : ℕ) (ss : List Stroke) where
   room : k < length ss → length ss - k ≡ suc (length ss - (k + 1))
   room h = omega arith
 
-  pub taken : k < length ss → Ok tt ≡ answer (table_meaning n k ss)
-  taken h = ap (λ (m : ℕ). answer_by (Some m)) (sym (room h))
-
   stroke_more : (s : Stroke) → k < length ss → table_meaning n (k + 1) (set ss k s) ≡ marked (table_meaning n k ss) (mark_of s)
   stroke_more s h =
       let same = length-set ss k s in
@@ -36,12 +32,3 @@ module _ (n k : ℕ) (ss : List Stroke) where
 
   pub mark_more : (m : Mark) → k < length ss → table_meaning n (k + 1) (set ss k (stroke_of m)) ≡ marked (table_meaning n k ss) m
   mark_more m h = stroke_more (stroke_of m) h ∙ ap (marked (table_meaning n k ss)) (kept m)
-
-  none_left : length ss ≤ k → length ss - k ≡ 0
-  none_left h = omega arith
-
-  pub refused : length ss ≤ k → Err Full ≡ answer (table_meaning n k ss)
-  refused h = ap (λ (m : ℕ). answer_by (Some m)) (sym (none_left h))
-
-  pub mark_none : (m : Mark) → length ss ≤ k → table_meaning n k ss ≡ marked (table_meaning n k ss) m
-  mark_none m h = ap (λ (j : ℕ). marked_by (Some j) (table_meaning n k ss) m) (sym (none_left h))

@@ -4,7 +4,8 @@ use Rattle.mark.specs.Covers.{covers}
 use Rattle.mark.specs.declared.Mark.{Mark}
 use Rattle.sheet.specs.declared.refusals.Refusal.{Refusal}
 use Rattle.sheet.specs.declared.refusals.Unfit.{Unfit}
-use Rattle.sheet.specs.declared.refusals.Unfit.TheVariants.{Side, Memory}
+use Rattle.sheet.specs.declared.refusals.Unfit.TheVariants.{Memory}
+use Rattle.sheet.specs.Refusals.{sided}
 use Rattle.sheet.specs.Meanings.{Meaning, answer_by}
 use Rattle.strokes.specs.declared.records.Stroke.{Stroke}
 use Rattle.strokes.specs.Strokes.{mark_of, stroke_of}
@@ -25,7 +26,7 @@ table_meaning n used ss = record {
 
 -- the answer to the asking for a side over so many records: the side is looked at first
 abbrev pub asked : ℕ → ℕ → Result (Unit {0}) Unfit
-asked n len = cond (nat_lt n 8) (Err Side) (cond (nat_lt 2048 n) (Err Side) (cond (nat_lt 65536 len) (Err Memory) (Ok tt)))
+asked n len = sided n (cond (nat_lt 65536 len) (Err Memory) (Ok tt))
 
 -- the answer to the first mark on a table over so many records, once the asking was answered
 abbrev pub first_answer : Result (Unit {0}) Unfit → ℕ → Result (Result (Unit {0}) Refusal) Unfit

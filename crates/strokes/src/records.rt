@@ -14,6 +14,7 @@ pub enum Kind {
 }
 
 // A mark as a plotter takes it: of a dot only `from` counts, of a letter `from` and `code`.
+// A flat record, as a plotter wants each stroke at one length; no enum with the fields of each kind.
 #[derive(Clone, Copy, Debug, PartialEq, Eq)]
 pub struct Stroke {
     pub kind: Kind,
@@ -23,11 +24,11 @@ pub struct Stroke {
     pub code: u8,
 }
 
-impl Stroke {
-    // The stroke that keeps a mark, with every field set.
-    pub fn of(mark: Mark) -> Stroke
-        ensures { result ≡ stroke_of mark }
-    {
+// The stroke that keeps a mark, with every field set.
+impl From<Mark> for Stroke {
+    ghost from_gives = { λ mark stroke. stroke ≡ stroke_of mark };
+
+    fn from(mark: Mark) -> Stroke {
         match mark {
             Mark::Dot { at } => Stroke {
                 kind: Kind::Dot,
@@ -52,21 +53,23 @@ impl Stroke {
             },
         }
     }
+}
 
-    // The mark that the stroke keeps.
-    pub fn mark(self) -> Mark
-        ensures { result ≡ mark_of self }
-    {
-        match self.kind {
-            Kind::Dot => Mark::Dot { at: self.from },
+// The mark that a stroke keeps.
+impl From<Stroke> for Mark {
+    ghost from_gives = { λ stroke mark. mark ≡ mark_of stroke };
+
+    fn from(stroke: Stroke) -> Mark {
+        match stroke.kind {
+            Kind::Dot => Mark::Dot { at: stroke.from },
             Kind::Line => Mark::Line {
-                from: self.from,
-                to: self.to,
-                mode: self.mode,
+                from: stroke.from,
+                to: stroke.to,
+                mode: stroke.mode,
             },
             Kind::Letter => Mark::Letter {
-                at: self.from,
-                code: self.code,
+                at: stroke.from,
+                code: stroke.code,
             },
         }
     }

@@ -13,6 +13,7 @@ use mark::{Mark, letter_inks, line_inks, on_sheet};
 use sheet::{Refusal, Sheet};
 
 // A sheet over lent records: the first `count` of them are its strokes so far.
+// A lent slice with a count beside it, since a table has no memory of its own.
 #[derive(Drop)]
 pub struct StrokeTable<'a> {
     strokes: &'a mut [Stroke],
@@ -40,8 +41,7 @@ pub fn make<'a>(side: u16, records: &'a mut [Stroke]) -> StrokeTable<'a>
 fn dot_inks(side: Side, at: Point, pixel: (i32, i32)) -> bool
     ensures { result ≡ same_pixel (point_pixel side.pixels at) pixel }
 {
-    let dot = pixel_of(side, at);
-    dot.0 == pixel.0 && dot.1 == pixel.1
+    pixel_of(side, at) == pixel
 }
 
 // How many points a line has.
@@ -90,40 +90,43 @@ impl<'a> Sheet for StrokeTable<'a> {
         if !on_sheet(self.side, pixel) {
             return false;
         }
-        let mut found = false;
-        'strokes: for i in 0..self.count {
-            let kind = self.strokes[i].kind;
-            match kind {
-                Kind::Dot => {
-                    if dot_inks(self.side, self.strokes[i].from, pixel) {
-                        found = true;
-                        break 'strokes;
-                    }
-                }
-                Kind::Line => {
-                    let line = Line::between(self.side, self.strokes[i].from, self.strokes[i].to);
-                    for k in 0..points(line) {
-                        if line_inks(line, self.strokes[i].mode, k, pixel) {
-                            found = true;
-                            break 'strokes;
+        // Loops that a label leaves from inside, and no `any`: the project fixes this form.
+        'strokes: {
+            for stroke in self.strokes() {
+                match stroke.kind {
+                    Kind::Dot => {
+                        if dot_inks(self.side, stroke.from, pixel) {
+                            break 'strokes true;
                         }
                     }
-                }
-                Kind::Letter => {
-                    let from = self.strokes[i].from;
-                    let code = self.strokes[i].code;
-                    for row in 0..8 {
-                        for column in 0..5 {
-                            if letter_inks(self.side, from, code, row, column, pixel) {
-                                found = true;
-                                break 'strokes;
+                    Kind::Line => {
+                        let line = Line::between(self.side, stroke.from, stroke.to);
+                        for k in 0..points(line) {
+                            if line_inks(line, stroke.mode, k, pixel) {
+                                break 'strokes true;
+                            }
+                        }
+                    }
+                    Kind::Letter => {
+                        for row in 0..8 {
+                            for column in 0..5 {
+                                if letter_inks(
+                                    self.side,
+                                    stroke.from,
+                                    stroke.code,
+                                    row,
+                                    column,
+                                    pixel,
+                                ) {
+                                    break 'strokes true;
+                                }
                             }
                         }
                     }
                 }
             }
+            false
         }
-        found
     }
 
     // Frees every record, and alters none.
@@ -146,7 +149,7 @@ impl<'a> Sheet for StrokeTable<'a> {
         if self.count >= self.strokes.len() {
             return Err(Refusal::Full);
         }
-        self.push(Stroke::of(mark));
+        self.push(Stroke::from(mark));
         Ok(())
     }
 }

@@ -17,14 +17,10 @@ loop-row-preserved c =
           (λ w. ap (λ (m : ℕ). any_below (letter_inks_at m at code w k) 5) (sym c.loop-row.invariant.0)) c.put_row.ensures.gained c.loop-row.invariant.2,
     )
 
-pub returns : goal.returns
+pub returns-clause-gained : goal.returns-clause-gained
 unfolding letter_inks
-returns c =
+returns-clause-gained c =
     let t = c.args.sheet.now in
     let n = t.side.pixels in
     let all : c.loop-row.row ≡ 8 = omega (arith, c.loop-row.auto.row-end, c.loop-row-test.false) in
-    record {
-      side = c.loop-row.invariant.0;
-      named = c.loop-row.invariant.1;
-      gained = parts_end n (λ w row. any_below (letter_inks_at n c.args.at c.args.code w row) 5) t.bytes.now c.loop-row.row c.loop-row.sheet.bytes.now 8 all c.loop-row.invariant.2;
-    }
+    parts_end n (λ w row. any_below (letter_inks_at n c.args.at c.args.code w row) 5) t.bytes.now c.loop-row.row c.loop-row.sheet.bytes.now 8 all c.loop-row.invariant.2

@@ -5,38 +5,29 @@ use Rattle.raster.specs.Bits.{inked_at}
 use Rattle.raster.proofs.Inking.{page_gains}
 use Rattle.raster.proofs.drawing.put_mark.Goals as goal
 
-pub returns-in-Dot : goal.returns-in-Dot
-returns-in-Dot c =
+pub returns-in-Dot-clause-after : goal.returns-in-Dot-clause-after
+returns-in-Dot-clause-after c =
     let t = c.args.sheet.now in
     let n = t.side.pixels in
-    record {
-      after = page_gains n _ t.bytes.now _ c.args.mark c.put.ensures.side (λ w.
-          c.put.ensures.gained w
-          ∙ ap (λ (p : ℤ × ℤ). inked_at n t.bytes.now w || (on_sheet n w && same_pixel p w)) c.pixel_of.ensures
-          ∙ ap (λ (m : Mark). inked_at n t.bytes.now w || (on_sheet n w && reaches n m w)) (sym c.in-Dot.is));
-      named = c.put.ensures.named;
-    }
+    page_gains n _ t.bytes.now _ c.args.mark c.put.ensures.side (λ w.
+    c.put.ensures.gained w
+    ∙ ap (λ (p : ℤ × ℤ). inked_at n t.bytes.now w || (on_sheet n w && same_pixel p w)) c.pixel_of.ensures
+    ∙ ap (λ (m : Mark). inked_at n t.bytes.now w || (on_sheet n w && reaches n m w)) (sym c.in-Dot.is))
 
-pub returns-in-Line : goal.returns-in-Line
-returns-in-Line c =
+pub returns-in-Line-clause-after : goal.returns-in-Line-clause-after
+returns-in-Line-clause-after c =
     let t = c.args.sheet.now in
     let n = t.side.pixels in
     let l = c.between.ensures in
-    record {
-      after = page_gains n _ t.bytes.now _ c.args.mark c.put_line.ensures.side (λ w.
-          c.put_line.ensures.gained w
-          ∙ (λ i. inked_at n t.bytes.now w || (on_sheet n w && line_inks (l.from i) (l.to i) c.in-Line.mode w))
-          ∙ ap (λ (m : Mark). inked_at n t.bytes.now w || (on_sheet n w && reaches n m w)) (sym c.in-Line.is));
-      named = c.put_line.ensures.named;
-    }
+    page_gains n _ t.bytes.now _ c.args.mark c.put_line.ensures.side (λ w.
+    c.put_line.ensures.gained w
+    ∙ (λ i. inked_at n t.bytes.now w || (on_sheet n w && line_inks (l.from i) (l.to i) c.in-Line.mode w))
+    ∙ ap (λ (m : Mark). inked_at n t.bytes.now w || (on_sheet n w && reaches n m w)) (sym c.in-Line.is))
 
-pub returns-in-Letter : goal.returns-in-Letter
-returns-in-Letter c =
+pub returns-in-Letter-clause-after : goal.returns-in-Letter-clause-after
+returns-in-Letter-clause-after c =
     let t = c.args.sheet.now in
     let n = t.side.pixels in
-    record {
-      after = page_gains n _ t.bytes.now _ c.args.mark c.put_letter.ensures.side (λ w.
-          c.put_letter.ensures.gained w
-          ∙ ap (λ (m : Mark). inked_at n t.bytes.now w || (on_sheet n w && reaches n m w)) (sym c.in-Letter.is));
-      named = c.put_letter.ensures.named;
-    }
+    page_gains n _ t.bytes.now _ c.args.mark c.put_letter.ensures.side (λ w.
+    c.put_letter.ensures.gained w
+    ∙ ap (λ (m : Mark). inked_at n t.bytes.now w || (on_sheet n w && reaches n m w)) (sym c.in-Letter.is))

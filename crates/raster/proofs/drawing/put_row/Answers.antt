@@ -34,13 +34,9 @@ loop-column-preserved c =
       )
     ]
 
-pub returns : goal.returns
-returns c =
+pub returns-clause-gained : goal.returns-clause-gained
+returns-clause-gained c =
     let t = c.args.sheet.now in
     let n = t.side.pixels in
     let all : c.loop-column.column ≡ 5 = omega (arith, c.loop-column.auto.column-end, c.loop-column-test.false) in
-    record {
-      side = c.loop-column.invariant.0;
-      named = c.loop-column.invariant.1;
-      gained = parts_end n (λ v. letter_inks_at n c.args.at c.args.code v c.args.row) t.bytes.now c.loop-column.column c.loop-column.sheet.bytes.now 5 all c.loop-column.invariant.2;
-    }
+    parts_end n (λ v. letter_inks_at n c.args.at c.args.code v c.args.row) t.bytes.now c.loop-column.column c.loop-column.sheet.bytes.now 5 all c.loop-column.invariant.2
