@@ -4,7 +4,7 @@ ghost use Rattle.run.specs.Inks.{Ink, beam_at};
 ghost use Rattle.run.specs.Texts.{is_printed, set_letter, control, break_line, set_code};
 ghost use Rattle.pen.specs.Views.{drawn, lit};
 
-use crate::field::{beside, go_to, line_below, sum};
+use crate::field::shifted;
 use crate::marks::put_mark;
 use geometry::Point;
 use mark::Mark;
@@ -13,7 +13,7 @@ use sheet::Sheet;
 use statement::layout::Manner;
 
 // Sets a letter at the beam, and takes the beam one place to the right.
-pub fn set_letter<S: Sheet>(
+fn set_letter<S: Sheet>(
     beam: &mut Point,
     intensity: u8,
     sheet: &mut S,
@@ -22,10 +22,8 @@ pub fn set_letter<S: Sheet>(
     ensures after { (i : Ink) → drawn result (lit i beam.new intensity (S.meaning sheet.new)) ≡ set_letter code (lit i beam.old intensity (S.meaning sheet.old)) }
     ensures tied { S.tied sheet.new ≡ S.tied sheet.old }
 {
-    let Some(next) = beside(*beam, 450) else {
-        return Err(Fault::OffField);
-    };
-    if code != 32 {
+    let next = shifted(*beam, 450, 0)?;
+    if code != b' ' {
         put_mark(intensity, sheet, Mark::Letter { at: *beam, code })?;
     }
     *beam = next;
@@ -33,46 +31,48 @@ pub fn set_letter<S: Sheet>(
 }
 
 // Does what a code that is no letter says: 13 carriage return, 10 line feed, 8 backspace.
-pub fn obey_control(beam: &mut Point, code: u8) -> Result<(), Fault>
+fn obey_control(beam: &mut Point, code: u8) -> Result<(), Fault>
     ensures { (i : Ink) → drawn result (beam_at beam.new i) ≡ control code (beam_at beam.old i) }
 {
     match code {
-        13 => {
-            beam.x = -16384;
-            Ok(())
-        }
-        10 => go_to(beam, line_below(beam.x, beam.y)),
-        8 => go_to(beam, beside(*beam, -450)),
-        _ => Ok(()),
+        13 => beam.x = -16384,
+        10 => *beam = shifted(*beam, 0, -600)?,
+        8 => *beam = shifted(*beam, -450, 0)?,
+        _ => {}
     }
+    Ok(())
 }
 
 // Whether a letter at this point would pass the right margin.
-pub fn passes_margin(p: Point) -> bool
+fn passes_margin(p: Point) -> bool
     ensures { result ≡ int_lt (pos 16384) (p.x +ℤ pos 450) }
 {
-    sum(p.x, 450) > 16384
+    i32::from(p.x) + 450 > 16384
 }
 
 // Whether the font has a code.
-pub fn is_printed(code: u8) -> bool
+fn is_printed(code: u8) -> bool
     ensures { result ≡ is_printed code }
 {
-    32 <= code && code <= 126
+    (32..=126).contains(&code)
 }
 
 // Starts a new line where the next letter would pass the right margin, if lines are broken.
-pub fn break_line(beam: &mut Point, manner: Manner) -> Result<(), Fault>
+fn break_line(beam: &mut Point, manner: Manner) -> Result<(), Fault>
     ensures { (i : Ink) → drawn result (beam_at beam.new i) ≡ break_line manner (beam_at beam.old i) }
 {
-    match manner {
-        Manner::Wrapping if passes_margin(*beam) => go_to(beam, line_below(-16384, beam.y)),
-        _ => Ok(()),
+    if manner == Manner::Wrapping && passes_margin(*beam) {
+        let start = Point {
+            x: -16384,
+            y: beam.y,
+        };
+        *beam = shifted(start, 0, -600)?;
     }
+    Ok(())
 }
 
 // Sets one code of a text.
-pub fn set_code<S: Sheet>(
+pub(crate) fn set_code<S: Sheet>(
     beam: &mut Point,
     intensity: u8,
     sheet: &mut S,

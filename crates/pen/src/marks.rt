@@ -9,15 +9,12 @@ use run::types::Fault;
 use sheet::Sheet;
 
 // Puts a mark; at intensity 0 none is put.
-pub fn put_mark<S: Sheet>(intensity: u8, sheet: &mut S, mark: Mark) -> Result<(), Fault>
+pub(crate) fn put_mark<S: Sheet>(intensity: u8, sheet: &mut S, mark: Mark) -> Result<(), Fault>
     ensures after { (i : Ink) (p : Point) → drawn result (lit i p intensity (S.meaning sheet.new)) ≡ put mark (lit i p intensity (S.meaning sheet.old)) }
     ensures tied { S.tied sheet.new ≡ S.tied sheet.old }
 {
-    if intensity == 0 {
-        return Ok(());
+    if intensity != 0 {
+        sheet.mark(mark)?;
     }
-    match sheet.mark(mark) {
-        Ok(()) => Ok(()),
-        Err(_) => Err(Fault::SheetFull),
-    }
+    Ok(())
 }

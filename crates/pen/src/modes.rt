@@ -1,13 +1,12 @@
 // A new pen, its modes, and ERASE.
-ghost use Rattle.std.specs.Prelude.{◌≡◌, []};
-ghost use Rattle.mark.specs.declared.LineMode.TheVariants.{Solid};
+ghost use Rattle.std.specs.Prelude.{◌≡◌};
 ghost use Rattle.sheet.specs.Meanings.{Meaning};
-ghost use Rattle.run.specs.Inks.{origin};
 ghost use Rattle.run.specs.Performing.{mode_of, set_mode};
 ghost use Rattle.run.specs.Runs.{begun, blank};
-ghost use Rattle.pen.specs.Views.{stacked, ink_of};
+ghost use Rattle.pen.specs.Views.{ink_of};
 
-use crate::types::{MarkStack, Pen};
+use crate::types::Pen;
+use arrayvec::ArrayVec;
 use geometry::Point;
 use mark::LineMode;
 use sheet::Sheet;
@@ -33,21 +32,8 @@ impl Pen {
             beam: Point { x: 0, y: 0 },
             mode: LineMode::Solid,
             intensity: 128,
-            marks: MarkStack::new(),
+            marks: ArrayVec::new(),
         }
-    }
-
-    // Makes the pen as new.
-    fn reset(&mut self)
-        ensures beam { self.new.beam ≡ origin }
-        ensures mode { self.new.mode ≡ Solid }
-        ensures intensity { self.new.intensity ≡ 128 }
-        ensures marks { stacked self.new.marks ≡ [] }
-    {
-        self.beam = Point { x: 0, y: 0 };
-        self.mode = LineMode::Solid;
-        self.intensity = 128;
-        self.marks = MarkStack::new();
     }
 
     // Sets the line mode or the intensity.
@@ -59,13 +45,13 @@ impl Pen {
             Setting::Intensity => self.intensity = value,
         }
     }
-}
 
-// Clears the sheet, and makes the pen as new.
-pub fn erase<S: Sheet>(pen: &mut Pen, sheet: &mut S)
-    ensures after { ink_of pen.new (S.meaning sheet.new) ≡ blank (ink_of pen.old (S.meaning sheet.old)) }
-    ensures tied { S.tied sheet.new ≡ S.tied sheet.old }
-{
-    sheet.clear();
-    pen.reset();
+    // Clears the sheet, and makes the pen as new.
+    pub fn erase<S: Sheet>(&mut self, sheet: &mut S)
+        ensures after { ink_of self.new (S.meaning sheet.new) ≡ blank (ink_of self.old (S.meaning sheet.old)) }
+        ensures tied { S.tied sheet.new ≡ S.tied sheet.old }
+    {
+        sheet.clear();
+        *self = Pen::new();
+    }
 }

@@ -13,7 +13,7 @@ use sheet::Sheet;
 use statement::layout::Manner;
 
 // Sets one code after the other.
-pub fn set_codes<S: Sheet>(
+fn set_codes<S: Sheet>(
     beam: &mut Point,
     intensity: u8,
     sheet: &mut S,
@@ -46,7 +46,7 @@ impl Drop for Restore<'_> {
 }
 
 // Sets a text and takes the beam back, whether the text was finished or refused.
-pub fn set_and_return<S: Sheet>(
+fn set_and_return<S: Sheet>(
     beam: &mut Point,
     intensity: u8,
     sheet: &mut S,
@@ -61,19 +61,21 @@ pub fn set_and_return<S: Sheet>(
     Ok(())
 }
 
-// Sets a text.
-pub fn set_text<S: Sheet>(
-    pen: &mut Pen,
-    sheet: &mut S,
-    manner: Manner,
-    codes: &[u8],
-) -> Result<(), Fault>
-    ensures after { drawn_of result pen.new (S.meaning sheet.new) ≡ set_text manner codes.now (ink_of pen.old (S.meaning sheet.old)) }
-    ensures tied { S.tied sheet.new ≡ S.tied sheet.old }
-{
-    let intensity = pen.intensity;
-    match manner {
-        Manner::Restoring => set_and_return(&mut pen.beam, intensity, sheet, codes),
-        _ => set_codes(&mut pen.beam, intensity, sheet, manner, codes),
+impl Pen {
+    // Sets a text.
+    pub(crate) fn set_text<S: Sheet>(
+        &mut self,
+        sheet: &mut S,
+        manner: Manner,
+        codes: &[u8],
+    ) -> Result<(), Fault>
+        ensures after { drawn_of result self.new (S.meaning sheet.new) ≡ set_text manner codes.now (ink_of self.old (S.meaning sheet.old)) }
+        ensures tied { S.tied sheet.new ≡ S.tied sheet.old }
+    {
+        let intensity = self.intensity;
+        match manner {
+            Manner::Restoring => set_and_return(&mut self.beam, intensity, sheet, codes),
+            _ => set_codes(&mut self.beam, intensity, sheet, manner, codes),
+        }
     }
 }
