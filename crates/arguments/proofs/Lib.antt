@@ -1,1 +1,2 @@
 mod Counts
+mod Pieces

@@ -3,5 +3,6 @@
 
 pub mod count;
 pub mod pair;
+pub mod piece;
 pub mod plain;
 pub mod text;

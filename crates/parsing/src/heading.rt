@@ -1,10 +1,12 @@
 // Headings of definitions.
-ghost use Rattle.std.specs.Prelude.{◌≡◌, ℕ, List, ◌∷◌};
+ghost use Rattle.std.specs.Prelude.{◌≡◌, ℕ, List};
 ghost use Rattle.statement.specs.Reading.{onto, string, header_of, titled, heading};
 ghost use Rattle.statement.specs.Views.{bytes_of, shape_of, LiesIn, ReadingLies};
 ghost use Rattle.statement.specs.Places.{StringStands, ReadingStands};
+ghost use Rattle.arguments.specs.Pieces.{bytes_in};
 
 use arguments::count::read_name;
+use arguments::piece::Piece;
 use statement::letters::is_name;
 use statement::types::{Fault, Header, Part, Statement, Stop};
 
@@ -35,12 +37,12 @@ fn heading_with<'a>(name: Part<'a>, rest: &'a [u8]) -> Result<Statement<'a>, Sto
     }
 }
 
-// The statement of a name, the byte 1 and a header; `rest` is what follows the code.
-pub(crate) fn read_heading(rest: &[u8]) -> Result<Statement<'_>, Stop>
-    ensures value { shape_of result ≡ onto (string 8 rest.now) heading }
-    ensures parts { (code : ℕ) → ReadingLies result (code ∷ rest.now) }
-    ensures stands { ReadingStands result }
+// The statement of a name, the byte 1 and a header, from what follows the code.
+pub(crate) fn read_heading(piece: Piece<'_>) -> Result<Statement<'_>, Stop>
+    ensures value { shape_of result ≡ onto (string 8 (bytes_in piece.entry)) heading }
+    ensures parts { ReadingLies result piece.entry.whole.now }
+    ensures stands { piece.entry.at ≡ 1 → ReadingStands result }
 {
-    let (name, after) = read_name(rest)?;
-    heading_with(name, after)
+    let (name, rest) = read_name(piece)?;
+    heading_with(name, rest.bytes())
 }

@@ -1,3 +1,0 @@
-mod Calls
-mod Places
-mod Tails
