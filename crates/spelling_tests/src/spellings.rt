@@ -1,4 +1,5 @@
-use encoding::spell::spell;
+use encoding::spell::{spell, spelling_of};
+use spelling::refusal::Unspelt;
 use statement::types::{Header, Part, Statement, Tail};
 use std::test::Fail;
 
@@ -10,28 +11,33 @@ fn part(bytes: &[u8]) -> Part<'_> {
     Part { at: 0, bytes }
 }
 
-// A statement is spelt so, and the bytes after it stay.
+// A statement is spelt so, by itself and into a buffer, and the bytes after it stay.
 fn spells(statement: Statement<'_>, bytes: &[u8]) -> Result<(), Fail> {
     let mut buffer = [0xEEu8; 200];
-    match spell(statement, &mut buffer) {
-        Err(refusal) => Err(Fail::new(refusal.number())),
-        Ok(n) if n < 200 && &buffer[..n] == bytes && buffer[n] == 0xEE => Ok(()),
-        Ok(_) => Err(Fail::new("other bytes")),
+    let n = spell(statement, &mut buffer)?;
+    let spelling = spelling_of(statement)?;
+    if spelling.as_slice() != bytes {
+        return Err(Fail::new("another spelling"));
+    }
+    match buffer.split_at_checked(n) {
+        Some((front, [0xEE, ..])) if front == bytes => Ok(()),
+        _ => Err(Fail::new("other bytes")),
     }
 }
 
 // A statement is refused under a number, and no byte is altered.
 fn refuses(statement: Statement<'_>, room: usize, number: u8) -> Result<(), Fail> {
     let mut buffer = [0xEEu8; 600];
-    if room > 600 {
+    let Some(lent) = buffer.get_mut(..room) else {
         return Err(Fail::new("no such room"));
+    };
+    if spell(statement, lent).map_err(Unspelt::number) != Err(number) {
+        return Err(Fail::new("another answer"));
     }
-    match spell(statement, &mut buffer[..room]) {
-        Ok(n) => Err(Fail::new(n)),
-        Err(refusal) if refusal.number() != number => Err(Fail::new(refusal.number())),
-        Err(_) if buffer.iter().all(|b| *b == 0xEE) => Ok(()),
-        Err(_) => Err(Fail::new("a byte is altered")),
+    if buffer.iter().any(|b| *b != 0xEE) {
+        return Err(Fail::new("a byte is altered"));
     }
+    Ok(())
 }
 
 #[test]

@@ -1,13 +1,13 @@
 -- One step through a stream, from between two statements.
-use Rattle.std.proofs.Common.{◌≡◌, ℕ, ◌+◌, ◌-◌, ◌^◌, ◌<◌, ◌≤◌, min, true, cond, leb, List, [], ◌∷◌, ◌++◌, length, get_or, take, drop, None, sym, refl, ap, ◌∙◌, arith, length-append, w8, Fits}
+use Rattle.std.proofs.Common.{◌≡◌, ℕ, ◌+◌, ◌-◌, ◌^◌, ◌<◌, ◌≤◌, min, true, cond, leb, List, [], ◌∷◌, ◌++◌, length, get_or, take, drop, None, Ok, Err, Result, sym, refl, ap, ◌∙◌, arith, length-append, w8, Fits}
 use Rattle.std.proofs.ByRecursion.{All-from_get_or}
 use Rattle.std.proofs.lemmas.List.{append_assoc, take-append-drop, length-take, length-drop, drop_all, drop-drop, drop_at}
 use Rattle.std.proofs.lemmas.Bool.{le-leb}
 use Rattle.statement.specs.declared.types.Fault.{Fault}
 use Rattle.statement.specs.declared.types.Fault.TheVariants as fault
 use Rattle.statement.specs.declared.types.Standing.{Standing}
-use Rattle.statement.specs.declared.types.Reading.{Reading}
-use Rattle.statement.specs.declared.types.Reading.TheVariants as came
+use Rattle.statement.specs.declared.types.Statement.{Statement}
+use Rattle.statement.specs.declared.types.Stop.{Stop}
 use Rattle.statement.specs.Statements.{Said, onwards, allowed}
 use Rattle.statement.specs.Views.{said_by, shape_of}
 use Rattle.statement.specs.Reading.{more, refused, reading}
@@ -26,11 +26,10 @@ pub bytes_typed : (bs : List ℕ) → ((i : ℕ) → Fits w8 (get_or bs i 0)) �
 bytes_typed bs h = All-from_get_or (λ b. b < 256) bs 0 (λ i lt. (h i).fits)
 
 -- what was read as whole is spelt at the front
-pub begins_with : (st : Standing) (r : Reading) (bs : List ℕ) → Bytes bs → shape_of r ≡ reading st bs → BeginsWith st r bs
-begins_with st came.More bs h e = tt
-begins_with st (came.Refused f) bs h e = tt
-begins_with st (came.Whole s) bs h e =
-    let g = begins st bs (said_by s) (sym e) in
+pub begins_with : (st : Standing) (r : Result Statement Stop) (bs : List ℕ) → Bytes bs → shape_of r ≡ reading st bs → BeginsWith st r bs
+begins_with st (Err e) bs h is = tt
+begins_with st (Ok s) bs h is =
+    let g = begins st bs (said_by s) (sym is) in
     let p : bs ≡ spell (said_by s) ++ g.rest = g.spelt.1 h in
     let n = length (spell (said_by s)) in
     let left : drop n bs ≡ g.rest = ap (drop n) p ∙ drop_at (spell (said_by s)) g.rest n refl in

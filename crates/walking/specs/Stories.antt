@@ -1,16 +1,14 @@
 -- What a walker through a stream has still to tell.
-use Rattle.std.specs.Prelude.{◌≡◌, ℕ, ◌+◌, true, List, [], ◌∷◌, ◌++◌, map, length, drop, Some, None, Option}
+use Rattle.std.specs.Prelude.{◌≡◌, ℕ, ◌+◌, true, List, [], ◌∷◌, ◌++◌, map, length, drop, Some, None, Option, Ok, Err, Result}
 use Rattle.statement.specs.declared.types.Standing.{Standing}
 use Rattle.statement.specs.declared.types.Standing.TheVariants.{Outside, Picture, Definition}
-use Rattle.statement.specs.declared.types.Reading.{Reading}
-use Rattle.statement.specs.declared.types.Reading.TheVariants as came
+use Rattle.statement.specs.declared.types.Statement.{Statement}
+use Rattle.statement.specs.declared.types.Stop.{Stop}
 use Rattle.statement.specs.Statements.{allowed, onwards}
 use Rattle.statement.specs.Views.{said_by}
 use Rattle.walking.specs.declared.walker.Placed.{Placed}
 use Rattle.walking.specs.declared.walker.End.{End}
 use Rattle.walking.specs.declared.walker.End.TheVariants as end
-use Rattle.walking.specs.declared.walker.Step.{Step}
-use Rattle.walking.specs.declared.walker.Step.TheVariants as step
 use Rattle.spelling.specs.Answers.{over_front}
 use Rattle.spelling.specs.Spelling.{code_of, spell, Lawful}
 use Rattle.spelling.specs.Walking.{Told, Stopped, Walk, walk}
@@ -38,17 +36,16 @@ abbrev pub from_place : Standing → ℕ → List ℕ → List Told → Walk
 from_place st at bs told = walk (record { standing = st; held = []; told = told; read = at; stop = None }) (drop at bs)
 
 -- what was told before and the step make up the walk
-abbrev pub Stepped : Step → (List Told → Walk) → (List Told → Walk) → Type 0
-Stepped (step.Told p) before after = (told : List Told) → before told ≡ after (told ++ (told_by p ∷ []))
-Stepped (step.Over e) before after = (told : List Told) → ((before told).told ≡ told) × (e ≡ end_of (before told))
+abbrev pub Stepped : Result Placed End → (List Told → Walk) → (List Told → Walk) → Type 0
+Stepped (Ok p) before after = (told : List Told) → before told ≡ after (told ++ (told_by p ∷ []))
+Stepped (Err e) before after = (told : List Told) → ((before told).told ≡ told) × (e ≡ end_of (before told))
 
 -- a walker goes on past the statement that it tells, and stays at the end
-abbrev pub Moved : Step → Standing → ℕ → Standing → ℕ → Type 0
-Moved (step.Told p) st at st' at' = (p.place ≡ at) × (st' ≡ onwards st (said_by p.statement)) × (at' ≡ at + length (spell (said_by p.statement)))
-Moved (step.Over e) st at st' at' = (st' ≡ st) × (at' ≡ at)
+abbrev pub Moved : Result Placed End → Standing → ℕ → Standing → ℕ → Type 0
+Moved (Ok p) st at st' at' = (p.place ≡ at) × (st' ≡ onwards st (said_by p.statement)) × (at' ≡ at + length (spell (said_by p.statement)))
+Moved (Err e) st at st' at' = (st' ≡ st) × (at' ≡ at)
 
--- a whole statement that was read is lawful and allowed, and the bytes begin with its spelling
-abbrev pub BeginsWith : Standing → Reading → List ℕ → Type 0
-BeginsWith st came.More bs = Unit {0}
-BeginsWith st (came.Refused f) bs = Unit {0}
-BeginsWith st (came.Whole s) bs = (bs ≡ over_front (spell (said_by s)) bs) × Lawful (said_by s) × (allowed st (code_of (said_by s)) ≡ true)
+-- a statement that was read is lawful and allowed, and the bytes begin with its spelling
+abbrev pub BeginsWith : Standing → Result Statement Stop → List ℕ → Type 0
+BeginsWith st (Ok s) bs = (bs ≡ over_front (spell (said_by s)) bs) × Lawful (said_by s) × (allowed st (code_of (said_by s)) ≡ true)
+BeginsWith st (Err e) bs = Unit {0}

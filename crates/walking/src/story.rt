@@ -3,7 +3,7 @@ ghost use Rattle.std.specs.Prelude.{[], IfOk};
 ghost use Rattle.walking.specs.Stories.{from_place, Tells};
 ghost use Rattle.spelling.specs.Walking.{read_back};
 
-use crate::walker::{End, Placed, Step, Walker};
+use crate::walker::{End, Placed, Walker};
 use std::alloc::{AllocError, Global};
 
 // The statements of a stream with their places, and how the stream ends.
@@ -20,8 +20,8 @@ fn tell<'a>(heap: Global, mut walker: Walker<'a>) -> Result<Story<'a>, AllocErro
     let mut told = Vec::new(heap);
     loop {
         match walker.next() {
-            Step::Told(placed) => told.push(placed)?,
-            Step::Over(end) => return Ok(Story { told, end }),
+            Ok(placed) => told.push(placed)?,
+            Err(end) => return Ok(Story { told, end }),
         }
     }
 }

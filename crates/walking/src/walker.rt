@@ -4,14 +4,14 @@ ghost use Rattle.std.specs.Prelude.{◌≤◌, length};
 use statement::types::{Fault, Standing, Statement};
 
 // A statement, with the place of its code in the stream.
-#[derive(Clone, Copy)]
+#[derive(Clone, Copy, Debug, PartialEq, Eq)]
 pub struct Placed<'a> {
     pub place: usize,
     pub statement: Statement<'a>,
 }
 
 // How a stream ends.
-#[derive(Clone, Copy)]
+#[derive(Clone, Copy, Debug, PartialEq, Eq)]
 pub enum End {
     // after a statement, outside pictures and definitions
     Whole,
@@ -19,13 +19,6 @@ pub enum End {
     Unfinished { place: usize },
     // by a refusal; the place is that of the refused statement's code, or of the byte too many
     Refused { fault: Fault, place: usize },
-}
-
-// What comes next in a stream.
-#[derive(Clone, Copy)]
-pub enum Step<'a> {
-    Told(Placed<'a>),
-    Over(End),
 }
 
 // A place between two statements of a stream, and where one stands there.

@@ -17,6 +17,6 @@ loop-placed-preserved c =
     let w = c.args.walker in (
       c.next.ensures.bytes ∙ c.loop-placed.invariant.0,
       onward c.loop-placed.walker.standing c.next.new.self.standing c.loop-placed.walker.place c.next.new.self.place c.loop-placed.walker.bytes.now w.bytes.now
-          (vec_items c.loop-placed.told) (vec_items c.push.new.self) c.in-Told.placed (from_place w.standing w.place w.bytes.now []) c.loop-placed.invariant.0
-          c.in_ok-push-in-Told.ensures.items c.loop-placed.invariant.1 c.in-Told.ensures.step,
+          (vec_items c.loop-placed.told) (vec_items c.push.new.self) c.in-Ok.placed (from_place w.standing w.place w.bytes.now []) c.loop-placed.invariant.0
+          c.in_ok-push-in-Ok.ensures.items c.loop-placed.invariant.1 c.in-Ok.ensures.step,
     )
