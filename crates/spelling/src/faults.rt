@@ -6,6 +6,7 @@ ghost use Rattle.statement.specs.Statements.{call};
 ghost use Rattle.statement.specs.Views.{bytes_of, said_by, tail_said};
 ghost use Rattle.spelling.specs.Spelling.{first_of, unless, tail_fits, act_fault, fault_of};
 
+use crate::parts::Parts;
 use statement::coordinate::is_lawful;
 use statement::layout::Aim;
 use statement::letters::{is_name, is_text};
@@ -75,22 +76,13 @@ fn check_call(name: Part<'_>, tail: Tail<'_>) -> Result<(), Fault>
 pub fn check(statement: &Statement<'_>) -> Result<(), Fault>
     ensures { result_err result ≡ fault_of (said_by statement.now) }
 {
-    match *statement {
-        Statement::Movea(x, y) | Statement::Drawa(x, y) | Statement::Dota(x, y) => {
-            check_pair(Aim::Absolute, x, y)
-        }
-        Statement::Mover(x, y) | Statement::Drawr(x, y) | Statement::Dotr(x, y) => {
-            check_pair(Aim::Relative, x, y)
-        }
-        Statement::Text(text) | Statement::Textr(text) | Statement::Texto(text) => {
-            check_text(text.bytes)
-        }
-        Statement::Escdev(_, text) => hold(text.bytes.len() <= LONGEST_STRING, Fault::TooLong),
-        Statement::Subhed(name, _) => check_name(name.bytes),
-        Statement::Insts(name, tail) => check_call(name, tail),
-        Statement::Linmod(_) | Statement::Setint(_) | Statement::Null | Statement::Erase => Ok(()),
-        Statement::Endpic | Statement::Subend => Ok(()),
-        Statement::Mark | Statement::Movemk | Statement::Drawmk => Ok(()),
+    match Parts::from(*statement) {
+        Parts::Pair(_, aim, x, y) => check_pair(aim, x, y),
+        Parts::Text(_, text) => check_text(text.bytes),
+        Parts::Escape(_, text) => hold(text.bytes.len() <= LONGEST_STRING, Fault::TooLong),
+        Parts::Heading(name, _) => check_name(name.bytes),
+        Parts::Calling(name, tail) => check_call(name, tail),
+        Parts::Bare(_) | Parts::Value(..) => Ok(()),
     }
 }
 
