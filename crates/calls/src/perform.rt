@@ -34,10 +34,10 @@ fn perform<'t, S: Sheet>(
     admit(statement, work.count).map_err(|fault| Failure { fault, spot })?;
     work.count += 1;
     let Statement::Insts(name, tail) = statement else {
-        return work.pen.perform_plain(sheet, statement).map_err(|fault| Failure {
-            fault,
-            spot,
-        });
+        return work
+            .pen
+            .perform_plain(sheet, statement)
+            .map_err(|fault| Failure { fault, spot });
     };
     arrive(&mut work.pen, tail);
     let Some(at) = table.find(name.bytes) else {
