@@ -3,5 +3,5 @@
 
 mod line;
 pub mod listing;
-mod put;
+pub mod quote;
 mod words;
