@@ -2,7 +2,9 @@
 #![tactic(auto)]
 
 mod definition;
+mod names;
 mod nesting;
+mod opened;
 mod perform;
 mod steps;
 mod table;

@@ -6,19 +6,19 @@ ghost use Rattle.pen.specs.Views.{ink_of};
 ghost use Rattle.calls.specs.Outcomes.{leaves, perform_said};
 ghost use Rattle.calls.specs.Tables.{open_of, calls_left, entries_of};
 
-use crate::nesting::OpenNames;
-use crate::steps::{admit, arrive, enter};
+use crate::opened::OpenNames;
+use crate::steps::{arrive, enter, is_act, is_spent, perform_at};
 use crate::types::{Failure, Table, Work};
 use parsing::read::read;
 use run::types::{Fault, Spot};
 use sheet::Sheet;
-use statement::types::{Home, Standing, Statement, Stop};
+use statement::types::{Fault as Unread, Home, Reading, Standing, Statement};
 
 // Performs a statement at an offset of the innermost body, where these calls are open.
 #[cycle(perform_perform_body)]
-fn perform<'t, S: Sheet>(
-    table: &'t Table,
-    calls: &OpenNames<'t>,
+fn perform<S: Sheet>(
+    table: &Table,
+    calls: &OpenNames,
     offset: usize,
     work: &mut Work,
     sheet: &mut S,
@@ -28,31 +28,39 @@ fn perform<'t, S: Sheet>(
     ensures tied { S.tied sheet.new ≡ S.tied sheet.old }
 {
     let spot = Spot {
-        calls: calls.depth(),
+        calls: calls.used,
         offset,
     };
-    admit(statement, work.count).map_err(|fault| Failure { fault, spot })?;
+    if !is_act(statement) {
+        let fault = Fault::Read(Unread::Misplaced);
+        return Err(Failure { fault, spot });
+    }
+    if is_spent(work.count) {
+        let fault = Fault::TooMany;
+        return Err(Failure { fault, spot });
+    }
     work.count += 1;
     let Statement::Insts(name, tail) = statement else {
-        return work
-            .pen
-            .perform_plain(sheet, statement)
-            .map_err(|fault| Failure { fault, spot });
+        return perform_at(spot, &mut work.pen, sheet, statement);
     };
     arrive(&mut work.pen, tail);
     let Some(at) = table.find(name.bytes) else {
         return Ok(());
     };
     let entry = table.entry(at);
-    enter(entry, calls, name.bytes).map_err(|fault| Failure { fault, spot })?;
-    perform_body(table, &calls.with(&entry.name), work, sheet, &entry.body)
+    if let Err(fault) = enter(entry, calls, name.bytes) {
+        return Err(Failure { fault, spot });
+    }
+    let mut inner = *calls;
+    inner.push(entry.name);
+    perform_body(table, &inner, work, sheet, entry.recorded())
 }
 
 // Performs a body, where its own call is the last of these that are open.
 #[cycle(perform_perform_body)]
-fn perform_body<'t, S: Sheet>(
-    table: &'t Table,
-    calls: &OpenNames<'t>,
+fn perform_body<S: Sheet>(
+    table: &Table,
+    calls: &OpenNames,
     work: &mut Work,
     sheet: &mut S,
     body: &[u8],
@@ -63,16 +71,16 @@ fn perform_body<'t, S: Sheet>(
     let mut start = 0;
     for end in 0..body.len() {
         match read(Standing::Definition(Home::Outside), &body[start..end + 1]) {
-            Err(Stop::Wanting) => {}
-            Err(Stop::Wrong(unread)) => {
+            Reading::More => {}
+            Reading::Refused(unread) => {
                 let spot = Spot {
-                    calls: calls.depth(),
+                    calls: calls.used,
                     offset: start,
                 };
                 let fault = Fault::Read(unread);
                 return Err(Failure { fault, spot });
             }
-            Ok(statement) => {
+            Reading::Whole(statement) => {
                 perform(table, calls, start, work, sheet, &statement)?;
                 start = end + 1;
             }

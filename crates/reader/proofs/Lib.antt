@@ -1,5 +1,6 @@
 pub mod Held
 pub mod Names
+pub mod Parts
 pub mod Drafts
 pub mod Obeys
 pub mod Pictures

@@ -1,4 +1,5 @@
 pub mod Answers
 pub mod Held
+pub mod Recording
 pub mod Stances
 pub mod Views

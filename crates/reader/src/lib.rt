@@ -5,5 +5,6 @@ pub mod answers;
 mod define;
 mod obey;
 pub mod reader;
+mod record;
 mod settle;
 mod state;

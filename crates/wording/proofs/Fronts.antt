@@ -1,8 +1,9 @@
 -- Texts taken apart at a space or behind a front.
-use Rattle.std.proofs.Common.{◌≡◌, ℕ, ◌+◌, ◌<◌, ◌≤◌, Bool, true, false, cond, eqb, List, [], ◌∷◌, ◌++◌, length, get_or, take, drop, Some, None, Option, sym, refl, ap, ◌∙◌, arith, Bor, MatchOption}
-use Rattle.std.specs.Option.{option_map}
-use Rattle.std.proofs.lemmas.List.{drop_more, drop_all}
-use Rattle.std.proofs.lemmas.Bool.{eqb-true, eq-eqb, ne_eqb}
+use Rattle.std.proofs.Common.{◌≡◌, ℕ, suc, ◌+◌, ◌≤◌, Bool, true, false, cond, eqb, ltb, List, [], ◌∷◌, ◌++◌, length, take, drop, Some, None, Option, sym, refl, ap, ◌∙◌, arith, Bor, MatchOption}
+use Rattle.std.specs.List.{position, position_or_len}
+use Rattle.std.specs.Option.{option_map, unwrap_or}
+use Rattle.std.proofs.lemmas.List.Recursion.{is_position_or_len}
+use Rattle.std.proofs.lemmas.Bool.{eqb-true, eq-eqb, ne_eqb, ltb-false}
 use Rattle.wording.specs.Laws.{Spaceless}
 use Rattle.wording.specs.Texts.{word, rest, behind}
 
@@ -16,23 +17,29 @@ drop_word [] = refl
 drop_word (c ∷ cs) =
     elim (eqb c 32) as (λ b. drop (length (cond b [] (c ∷ word cs))) (c ∷ cs) ≡ cond b (c ∷ cs) (rest cs)) [ true ↦ refl | false ↦ drop_word cs ]
 
+word_within : (t : List ℕ) → length (word t) ≤ length t
+word_within [] = omega arith
+word_within (c ∷ cs) =
+    let h = word_within cs in
+    elim (eqb c 32) as (λ b. length (cond b [] (c ∷ word cs)) ≤ suc (length cs)) [ true ↦ omega arith | false ↦ omega arith ]
+
+-- the first space, or else the end, stands behind the first word
+word_ends : (t : List ℕ) → length (word t) ≡ position_or_len (λ b. eqb b 32) t
+word_ends = is_position_or_len (λ t. length (word t)) (λ b. eqb b 32) refl
+    (λ c cs. elim (eqb c 32) as (λ b. length (cond b [] (c ∷ word cs)) ≡ cond b 0 (1 + length (word cs))) [ true ↦ refl | false ↦ omega arith ])
+
+pub space_or_end : (t : List ℕ) → unwrap_or (position (λ b. eqb b 32) t) (length t) ≡ length (word t)
+space_or_end t = go (ltb (position_or_len (λ b. eqb b 32) t) (length t)) refl
+  where
+    go : (b : Bool) → ltb (position_or_len (λ b. eqb b 32) t) (length t) ≡ b → unwrap_or (cond b (Some (position_or_len (λ b. eqb b 32) t)) None) (length t) ≡ length (word t)
+    go true e = sym (word_ends t)
+    go false e = omega (arith, word_ends t, word_within t, ltb-false (position_or_len (λ b. eqb b 32) t) (length t) e)
+
 -- a text is its first word and the rest
 pub word_rest : (t : List ℕ) → word t ++ rest t ≡ t
 word_rest [] = refl
 word_rest (c ∷ cs) =
     elim (eqb c 32) as (λ b. cond b [] (c ∷ word cs) ++ cond b (c ∷ cs) (rest cs) ≡ c ∷ cs) [ true ↦ refl | false ↦ ap (λ z. c ∷ z) (word_rest cs) ]
-
--- the word, as far as one has looked
-module _ (t : List ℕ) (i : ℕ) (so_far : length (word t) ≡ i + length (word (drop i t))) where
-  pub at_space : i < length t → get_or t i 0 ≡ 32 → i ≡ length (word t)
-  at_space h e = sym (so_far ∙ ap (λ z. i + length (word z)) (drop_more t i 0 h) ∙ ap (λ b. i + length (cond b [] (get_or t i 0 ∷ word (drop (i + 1) t)))) (eq-eqb (get_or t i 0) 32 e) ∙ omega arith)
-
-  pub no_space : i < length t → (get_or t i 0 ≡ 32 → ⊥) → length (word t) ≡ i + 1 + length (word (drop (i + 1) t))
-  no_space h e =
-      so_far ∙ ap (λ z. i + length (word z)) (drop_more t i 0 h) ∙ ap (λ b. i + length (cond b [] (get_or t i 0 ∷ word (drop (i + 1) t)))) (ne_eqb (get_or t i 0) 32 e) ∙ omega arith
-
-  pub no_more : length t ≤ i → length (word t) ≡ i
-  no_more h = so_far ∙ ap (λ z. i + length (word z)) (drop_all i t h) ∙ omega arith
 
 -- a front, and what follows it
 pub behind_front : (p t : List ℕ) → behind p (p ++ t) ≡ Some t

@@ -1,7 +1,5 @@
 pub mod Tables
 pub mod Fronts
-pub mod Figures
-pub mod Turns
 pub mod Decimal
 pub mod Quoting
 pub mod Sound

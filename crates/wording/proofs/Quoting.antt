@@ -54,20 +54,20 @@ module _ (c : ℕ) (cs t after : List ℕ) (k : Spot → Option Found) (ih : (z 
       let p = before_come b (k spot.Between) t after e in
       (λ i. sym q i ++ ih spot.Between p.0 p.1 i) ∙ sym (append_assoc (quoted_byte b) (flat_map quoted_byte p.0) (34 ∷ after)) ∙ ap (λ z. writing z after) p.2
 
-  plain_written : (x : Bool) → is_plain c ≡ x → turned (cond x (turn.Byte c) turn.Wrong) cs k ≡ Some (t, after) → c ∷ cs ≡ writing t after
+  plain_written : (x : Bool) → is_plain c ≡ x → turned (cond x (Some (turn.Byte c)) None) cs k ≡ Some (t, after) → c ∷ cs ≡ writing t after
   plain_written true h e = byte_written c (c ∷ []) (cond-true (is_plain c) (c ∷ []) (92 ∷ 120 ∷ hex_digit (c / 16) ∷ hex_digit (c % 16) ∷ []) h) e
   plain_written false h e = none e
 
-  slash_written : (x : Bool) → eqb c 92 ≡ x → turned (cond x (turn.Go spot.Letter) (cond (is_plain c) (turn.Byte c) turn.Wrong)) cs k ≡ Some (t, after) → c ∷ cs ≡ writing t after
+  slash_written : (x : Bool) → eqb c 92 ≡ x → turned (cond x (Some (turn.Go spot.Letter)) (cond (is_plain c) (Some (turn.Byte c)) None)) cs k ≡ Some (t, after) → c ∷ cs ≡ writing t after
   slash_written true h e = ap (λ z. z ∷ cs) (eqb-true c 92 h) ∙ ih spot.Letter t e
   slash_written false h e = plain_written (is_plain c) refl e
 
-  between_written : (x : Bool) → eqb c 34 ≡ x → turned (cond x turn.End (cond (eqb c 92) (turn.Go spot.Letter) (cond (is_plain c) (turn.Byte c) turn.Wrong))) cs k ≡ Some (t, after) → c ∷ cs ≡ writing t after
+  between_written : (x : Bool) → eqb c 34 ≡ x → turned (cond x (Some turn.End) (cond (eqb c 92) (Some (turn.Go spot.Letter)) (cond (is_plain c) (Some (turn.Byte c)) None))) cs k ≡ Some (t, after) → c ∷ cs ≡ writing t after
   between_written true h e =
       let q : ◌≡◌ {A = Found} ([], cs) (t, after) = same ([], cs) (t, after) e in ap (λ z. z ∷ cs) (eqb-true c 34 h) ∙ ap (λ z. writing z.0 z.1) q
   between_written false h e = slash_written (eqb c 92) refl e
 
-  letter_written : (x : Bool) → eqb c 120 ≡ x → turned (cond x (turn.Go spot.High) turn.Wrong) cs k ≡ Some (t, after) → 92 ∷ c ∷ cs ≡ writing t after
+  letter_written : (x : Bool) → eqb c 120 ≡ x → turned (cond x (Some (turn.Go spot.High)) None) cs k ≡ Some (t, after) → 92 ∷ c ∷ cs ≡ writing t after
   letter_written true h e = ap (λ z. 92 ∷ z ∷ cs) (eqb-true c 120 h) ∙ ih spot.High t e
   letter_written false h e = none e
 
@@ -75,7 +75,7 @@ module _ (c : ℕ) (cs t after : List ℕ) (k : Spot → Option Found) (ih : (z 
   high_written None h e = none e
   high_written (Some d) h e = let w = hex_written c d h in ap (λ z. 92 ∷ 120 ∷ z ∷ cs) (sym w.0) ∙ ih (spot.Low d) t e
 
-  escape_written : (h d : ℕ) → hex_digit d ≡ c → d < 16 → (x : Bool) → is_plain (h * 16 + d) ≡ x → turned (cond x turn.Wrong (turn.Byte (h * 16 + d))) cs k ≡ Some (t, after) → 92 ∷ 120 ∷ hex_digit h ∷ c ∷ cs ≡ writing t after
+  escape_written : (h d : ℕ) → hex_digit d ≡ c → d < 16 → (x : Bool) → is_plain (h * 16 + d) ≡ x → turned (cond x None (Some (turn.Byte (h * 16 + d)))) cs k ≡ Some (t, after) → 92 ∷ 120 ∷ hex_digit h ∷ c ∷ cs ≡ writing t after
   escape_written h d l m true p e = none e
   escape_written h d l m false p e =
       byte_written (h * 16 + d) (92 ∷ 120 ∷ hex_digit h ∷ c ∷ [])

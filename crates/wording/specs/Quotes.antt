@@ -10,22 +10,22 @@ use Rattle.wording.specs.declared.quote.Turn.TheVariants as turn
 abbrev pub hex_in : ℕ → Option ℕ
 hex_in c = cond (nat_le 48 c && nat_le c 57) (Some (c - 48)) (cond (nat_le 97 c && nat_le c 102) (Some (c - 87)) None)
 
-abbrev pub high_turn : Option ℕ → Turn
-high_turn None = turn.Wrong
-high_turn (Some h) = turn.Go (spot.Low h)
+abbrev pub high_turn : Option ℕ → Option Turn
+high_turn None = None
+high_turn (Some h) = Some (turn.Go (spot.Low h))
 
 -- a byte that would stand as itself is not escaped
-abbrev pub escaped_turn : ℕ → Turn
-escaped_turn b = cond (is_plain b) turn.Wrong (turn.Byte b)
+abbrev pub escaped_turn : ℕ → Option Turn
+escaped_turn b = cond (is_plain b) None (Some (turn.Byte b))
 
-abbrev pub low_turn : ℕ → Option ℕ → Turn
-low_turn h None = turn.Wrong
+abbrev pub low_turn : ℕ → Option ℕ → Option Turn
+low_turn h None = None
 low_turn h (Some l) = escaped_turn (h * 16 + l)
 
--- what the next character does: it ends the string, stands for a byte, or begins or goes on with an escape
-abbrev pub turn_at : Spot → ℕ → Turn
-turn_at spot.Between c = cond (c == 34) turn.End (cond (c == 92) (turn.Go spot.Letter) (cond (is_plain c) (turn.Byte c) turn.Wrong))
-turn_at spot.Letter c = cond (c == 120) (turn.Go spot.High) turn.Wrong
+-- what the next character does, if it may stand there: it ends the string, stands for a byte, or begins or goes on with an escape
+abbrev pub turn_at : Spot → ℕ → Option Turn
+turn_at spot.Between c = cond (c == 34) (Some turn.End) (cond (c == 92) (Some (turn.Go spot.Letter)) (cond (is_plain c) (Some (turn.Byte c)) None))
+turn_at spot.Letter c = cond (c == 120) (Some (turn.Go spot.High)) None
 turn_at spot.High c = high_turn (hex_in c)
 turn_at (spot.Low h) c = low_turn h (hex_in c)
 
@@ -40,18 +40,17 @@ abbrev pub HexTurn : Turn → Type 0
 HexTurn (turn.Go s) = Hex s
 HexTurn (turn.Byte b) = Unit {0}
 HexTurn turn.End = Unit {0}
-HexTurn turn.Wrong = Unit {0}
 
 -- bytes before those that were found
 abbrev pub before : List ℕ → Option (List ℕ × List ℕ) → Option (List ℕ × List ℕ)
 before bs None = None
 before bs (Some p) = Some (bs ++ p.0, p.1)
 
-abbrev pub turned : Turn → List ℕ → (Spot → Option (List ℕ × List ℕ)) → Option (List ℕ × List ℕ)
-turned (turn.Go s) cs k = k s
-turned (turn.Byte b) cs k = before (b ∷ []) (k spot.Between)
-turned turn.End cs k = Some ([], cs)
-turned turn.Wrong cs k = None
+abbrev pub turned : Option Turn → List ℕ → (Spot → Option (List ℕ × List ℕ)) → Option (List ℕ × List ℕ)
+turned None cs k = None
+turned (Some (turn.Go s)) cs k = k s
+turned (Some (turn.Byte b)) cs k = before (b ∷ []) (k spot.Between)
+turned (Some turn.End) cs k = Some ([], cs)
 
 -- the bytes up to the closing quote, and what follows it
 abbrev pub unquoted_at : Spot → List ℕ → Option (List ℕ × List ℕ)

@@ -3,6 +3,7 @@
 
 mod argument;
 pub mod laws;
+mod line;
 mod name;
 mod number;
 mod quote;

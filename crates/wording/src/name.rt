@@ -7,7 +7,7 @@ use statement::layout::{Aim, Bare, Layout, Manner, Setting, Trace};
 use statement::types::Header;
 
 // The header that a text is, in base 16.
-pub fn header_in(text: &[u8]) -> Option<Header>
+pub(crate) fn header_in(text: &[u8]) -> Option<Header>
     ensures { result ≡ entry headers text.now }
 {
     match text {
@@ -67,10 +67,11 @@ fn other_named(name: &[u8]) -> Option<Layout>
 }
 
 // What follows the code of a name, if it is the name of one.
-pub fn layout_named(name: &[u8]) -> Option<Layout>
+// One match of all names was tried: of a name that it lacks the proof is told the length alone.
+pub(crate) fn layout_named(name: &[u8]) -> Option<Layout>
     ensures { result ≡ entry names name.now }
 {
     bare_named(name)
-        .or(travel_named(name))
-        .or(other_named(name))
+        .or_else(|| travel_named(name))
+        .or_else(|| other_named(name))
 }

@@ -1,12 +1,13 @@
 // Bytes between quotes.
 ghost use Rattle.std.specs.Prelude.{◌≡◌, ◌<◌, ◌≤◌, length, take, IfSome};
-ghost use Rattle.listing.specs.Lines.{is_plain};
 ghost use Rattle.std.specs.Option.{option_map};
-ghost use Rattle.wording.specs.Quotes.{hex_in, high_turn, low_turn, turn_at, unquoted, Hex, HexTurn};
+ghost use Rattle.wording.specs.Quotes.{hex_in, low_turn, turn_at, unquoted, Hex, HexTurn};
+
+use listing::quote::is_plain;
 
 // Where one is between quotes.
 #[derive(Clone, Copy)]
-pub enum Spot {
+pub(crate) enum Spot {
     // between two bytes
     Between,
     // behind a backslash
@@ -19,22 +20,13 @@ pub enum Spot {
 
 // What a character between quotes does.
 #[derive(Clone, Copy)]
-pub enum Turn {
+pub(crate) enum Turn {
     // it goes on to another spot
     Go(Spot),
     // it is, or ends, the form of a byte
     Byte(u8),
     // it is the closing quote
     End,
-    // it may not stand here
-    Wrong,
-}
-
-// Whether a byte stands between quotes as itself.
-fn is_plain(b: u8) -> bool
-    ensures { result ≡ is_plain b }
-{
-    b >= 32 && b <= 126 && b != b'"' && b != b'\\'
 }
 
 // The value of a digit of base 16.
@@ -43,59 +35,43 @@ fn hex_in(c: u8) -> Option<u8>
 {
     match c {
         b'0'..=b'9' => Some(c - b'0'),
-        b'a'..=b'f' => Some(c - 87),
+        b'a'..=b'f' => Some(c - b'a' + 10),
         _ => None,
     }
 }
 
-// What a digit behind `\x` does.
-fn high_turn(c: u8) -> Turn
-    ensures { result ≡ high_turn (hex_in c) }
-{
-    match hex_in(c) {
-        Some(high) => Turn::Go(Spot::Low(high)),
-        None => Turn::Wrong,
-    }
-}
-
-// What the second digit of a byte does.
-fn low_turn(high: u8, c: u8) -> Turn
+// What the second digit of a byte does; a byte that would stand as itself may not be escaped.
+fn low_turn(high: u8, c: u8) -> Option<Turn>
     requires { high < 16 }
     ensures { result ≡ low_turn high (hex_in c) }
 {
-    let Some(low) = hex_in(c) else {
-        return Turn::Wrong;
-    };
-    let byte = high * 16 + low;
+    let byte = high * 16 + hex_in(c)?;
     if is_plain(byte) {
-        Turn::Wrong
+        None
     } else {
-        Turn::Byte(byte)
+        Some(Turn::Byte(byte))
     }
 }
 
-// What the next character does.
-fn turn_at(spot: Spot, c: u8) -> Turn
+// What the next character does, if it may stand there.
+fn turn_at(spot: Spot, c: u8) -> Option<Turn>
     requires { Hex spot }
     ensures is { result ≡ turn_at spot c }
-    ensures hex { HexTurn result }
+    ensures hex { IfSome result HexTurn }
 {
-    match spot {
-        Spot::Between => match c {
-            b'"' => Turn::End,
-            b'\\' => Turn::Go(Spot::Letter),
-            _ if is_plain(c) => Turn::Byte(c),
-            _ => Turn::Wrong,
-        },
-        Spot::Letter if c == b'x' => Turn::Go(Spot::High),
-        Spot::Letter => Turn::Wrong,
-        Spot::High => high_turn(c),
-        Spot::Low(high) => low_turn(high, c),
+    match (spot, c) {
+        (Spot::Between, b'"') => Some(Turn::End),
+        (Spot::Between, b'\\') => Some(Turn::Go(Spot::Letter)),
+        (Spot::Between, _) if is_plain(c) => Some(Turn::Byte(c)),
+        (Spot::Letter, b'x') => Some(Turn::Go(Spot::High)),
+        (Spot::High, _) => Some(Turn::Go(Spot::Low(hex_in(c)?))),
+        (Spot::Low(high), _) => low_turn(high, c),
+        _ => None,
     }
 }
 
 // Puts the bytes up to the closing quote into the scratch; their number, and what follows the quote.
-fn unquote<'a>(text: &'a [u8], scratch: &mut [u8]) -> Option<(usize, &'a [u8])>
+pub(crate) fn unquote<'a>(text: &'a [u8], scratch: &mut [u8]) -> Option<(usize, &'a [u8])>
     requires { length text.now ≤ length scratch.old }
     ensures value { option_map (λ p. (take p.0 scratch.new, p.1.now)) result ≡ unquoted text.now }
     ensures within { IfSome result (λ p. p.0 ≤ length scratch.new) }
@@ -103,7 +79,7 @@ fn unquote<'a>(text: &'a [u8], scratch: &mut [u8]) -> Option<(usize, &'a [u8])>
     let mut spot = Spot::Between;
     let mut len = 0;
     for (i, c) in text.iter().enumerate() {
-        match turn_at(spot, *c) {
+        match turn_at(spot, *c)? {
             Turn::Go(next) => spot = next,
             Turn::Byte(byte) => {
                 scratch[len] = byte;
@@ -111,7 +87,6 @@ fn unquote<'a>(text: &'a [u8], scratch: &mut [u8]) -> Option<(usize, &'a [u8])>
                 spot = Spot::Between;
             }
             Turn::End => return Some((len, &text[i + 1..])),
-            Turn::Wrong => return None,
         }
     }
     None
@@ -119,19 +94,7 @@ fn unquote<'a>(text: &'a [u8], scratch: &mut [u8]) -> Option<(usize, &'a [u8])>
 
 // A string that was between quotes, and what follows it.
 #[derive(Clone, Copy)]
-pub struct Quoted<'a> {
+pub(crate) struct Quoted<'a> {
     pub bytes: &'a [u8],
     pub after: &'a [u8],
-}
-
-// The string up to the closing quote, put into the scratch.
-pub fn read_quoted<'a>(text: &'a [u8], scratch: &'a mut [u8]) -> Option<Quoted<'a>>
-    requires { length text.now ≤ length scratch.old }
-    ensures { option_map (λ q. (q.bytes.now, q.after.now)) result ≡ unquoted text.now }
-{
-    let (len, after) = unquote(text, scratch)?;
-    Some(Quoted {
-        bytes: &scratch[0..len],
-        after,
-    })
 }

@@ -1,17 +1,18 @@
 // Pairs of coordinates and tails of calls.
-ghost use Rattle.std.specs.Prelude.{◌≡◌, ◌≤◌, length, codes};
+ghost use Rattle.std.specs.Prelude.{◌≡◌, codes};
 ghost use Rattle.std.specs.Option.{option_map};
 ghost use Rattle.statement.specs.Views.{tail_said};
 ghost use Rattle.wording.specs.Words.{pair_in, point_in, at_in, as_tail, bare_tail, tail_in};
 ghost use Rattle.wording.specs.Texts.{behind};
 
+use crate::line::Line;
 use crate::number::coordinate_in;
-use crate::quote::{Quoted, read_quoted};
+use crate::quote::Quoted;
 use crate::split::{after, split_word};
 use statement::types::{Part, Tail};
 
 // Two coordinates, each after a space.
-pub fn pair_in(text: &[u8]) -> Option<(i16, i16)>
+pub(crate) fn pair_in(text: &[u8]) -> Option<(i16, i16)>
     ensures { result ≡ pair_in text.now }
 {
     let (first, more) = split_word(after(b" ", text)?);
@@ -33,7 +34,7 @@ fn at_in(text: &[u8]) -> Option<Option<(i16, i16)>>
 {
     match text {
         [] => Some(None),
-        _ => Some(Some(point_in(text)?)),
+        _ => point_in(text).map(Some),
     }
 }
 
@@ -65,15 +66,15 @@ fn bare_tail<'a>(text: &[u8]) -> Option<Tail<'a>>
 }
 
 // The tail of a call.
-pub fn tail_in<'a>(text: &'a [u8], scratch: &'a mut [u8]) -> Option<Tail<'a>>
-    requires { length text.now ≤ length scratch.old }
-    ensures { option_map tail_said result ≡ tail_in text.now }
+pub(crate) fn tail_in(line: Line<'_>) -> Option<Tail<'_>>
+    ensures { option_map tail_said result ≡ tail_in line.entry.text.now }
 {
+    let text = line.text;
     if text.is_empty() {
         return Some(Tail::Empty);
     }
-    match after(b" AS \"", text) {
-        Some(quoted) => as_tail(read_quoted(quoted, scratch)?),
+    match line.after(b" AS \"") {
+        Some(quoted) => as_tail(quoted.unquote()?),
         None => bare_tail(text),
     }
 }

@@ -6,9 +6,9 @@ ghost use Rattle.calls.specs.Tables.{entries_of};
 ghost use Rattle.reader.specs.Views.{config_of};
 
 use crate::reader::Reader;
+use crate::record::no_draft;
 use crate::state::State;
-use arrayvec::ArrayVec;
-use calls::types::{Definition, Table, Work};
+use calls::types::{Table, Work};
 use pen::types::Pen;
 use run::types::Life;
 use statement::types::Standing;
@@ -20,7 +20,8 @@ fn over(table: Table) -> Reader
     ensures { (m : Meaning) → config_of result m ≡ begun m }
 {
     Reader {
-        held: ArrayVec::new(),
+        held: [0; 516],
+        len: 0,
         read: 0,
         life: Life::Live,
         state: State {
@@ -31,7 +32,7 @@ fn over(table: Table) -> Reader
                 count: 0,
             },
             table,
-            draft: Definition::blank(),
+            draft: no_draft(),
         },
     }
 }

@@ -1,20 +1,18 @@
-use Rattle.std.proofs.Common.{◌≡◌, ◌-◌, true, get_or, sym, arith}
-use Rattle.std.specs.Char.{is_ascii_digit}
-use Rattle.std.proofs.lemmas.Bool.Decides.{nat_tests}
-use Rattle.wording.proofs.Figures.{read_more, read_wrong, read_all, grows}
+use Rattle.std.proofs.Common.{cond, None, sym, ap, ◌∙◌, rules}
+use Rattle.wording.specs.Numerals.{number_after}
+use Rattle.wording.proofs.Decimal.{no_number, parsed, digits_utf8}
 use Rattle.wording.proofs.number.number_in.Goals as goal
 
-pub returns-then-not-is_digit : goal.returns-then-not-is_digit
-returns-then-not-is_digit c =
-    read_wrong c.args.text.now c.loop-b.b-index c.loop-b.number c.loop-b.invariant.0 c.loop-b-test.true (sym c.if-not-is_digit.ensures) (sym c.if-not-is_short.ensures)
+pub returns-then-not-is_short : goal.returns-then-not-is_short
+returns-then-not-is_short c =
+    elim c.then-not-is_short.branch [
+      | goal.then-not-is_short-via-then-not-is_short w ↦ ap (λ b. cond b (number_after 0 c.args.text.now) None) w.if-not-is_short.ensures
+      | goal.then-not-is_short-via-else-not-is_short+then-not-are_digits w ↦ no_number c.args.text.now (sym w.if-not-are_digits.ensures)
+    ]
 
-pub loop-b-preserved : goal.loop-b-preserved
-loop-b-preserved c =
-    let b = get_or c.args.text.now c.loop-b.b-index 0 in
-    let d : is_ascii_digit b ≡ true = sym c.if-not-is_digit.ensures in (
-      read_more c.args.text.now c.loop-b.b-index c.loop-b.number c.loop-b.invariant.0 c.loop-b-test.true d,
-      grows c.loop-b.number (b - 48) c.loop-b.b-index c.loop-b.invariant.1 (grind (arith, nat_tests)),
-    )
+pub returns-in-Ok : goal.returns-in-Ok
+returns-in-Ok c =
+    c.ok.ensures.value ∙ parsed c.args.text.now c.parse.result (search rules) (search rules) (rw c.in-Ok.ensures.cases.0 at c.parse.ensures.value.0)
 
-pub returns : goal.returns
-returns c = read_all c.args.text.now c.loop-b.b-index c.loop-b.number c.loop-b.invariant.0 c.loop-b-test.false (sym c.if-not-is_short.ensures)
+pub returns-in-Err : goal.returns-in-Err
+returns-in-Err c = absurd (c.in-Err.ensures.cases.0 (digits_utf8 c.args.text.now (search rules)))
