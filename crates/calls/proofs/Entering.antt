@@ -1,5 +1,5 @@
 -- What performing a statement comes to, test by test.
-use Rattle.std.proofs.Common.{◌≡◌, ℕ, zero, suc, ◌+◌, ◌-◌, ◌<◌, ◌≤◌, Bool, true, false, cond, leb, List, [], ◌∷◌, ◌++◌, length, Some, None, Option, sym, refl, ap, ◌∙◌, arith, length-take, rules, leb-false, leb-true}
+use Rattle.std.proofs.Common.{◌≡◌, ℕ, zero, suc, ◌+◌, ◌-◌, ◌<◌, ◌≤◌, Bool, true, false, cond, leb, List, [], ◌∷◌, ◌++◌, length, Some, None, Option, sym, refl, ap, ◌∙◌, arith, length-append, rules, leb-false, leb-true}
 use lib.ListN.{length-map}
 use Rattle.std.proofs.lemmas.Slice.Eq.{compares_Decides, IsBytesEq}
 use Rattle.statement.specs.declared.types.Fault.TheVariants as unread
@@ -15,16 +15,13 @@ use Rattle.run.specs.declared.types.Spot.{Spot}
 use Rattle.run.specs.Inks.{Ink}
 use Rattle.run.specs.Performing.{Out, done, failed, out_of, Entry, same_bytes, find, is_among, is_simple, spot_at, play, called, acted, bodies, perform, arrive}
 use Rattle.pen.specs.Views.{plain_effect}
-use Rattle.calls.specs.declared.opened.OpenNames.{OpenNames}
-use Rattle.calls.specs.Outcomes.{is_act, perform_said, hindrance}
-use Rattle.calls.specs.Tables.{open_of}
+use Rattle.calls.specs.declared.nesting.OpenNames.{OpenNames}
+use Rattle.calls.specs.Outcomes.{is_act, bar, perform_said, hindrance}
+use Rattle.calls.specs.Tables.{open_of, calls_left}
 
--- as many names are open as the count says
-pub open_count : (o : OpenNames) → length (open_of o) ≡ o.used
-open_count o =
-    let fits : o.used ≤ 8 = o.fits in
-    let sized : length o.names ≡ 8 = o.sized in
-    simp (length-map, length-take) (omega arith)
+-- how many calls more may be open
+pub left_of : (o : OpenNames) → calls_left o ≡ 8 - length (open_of o)
+left_of o = ap (λ n. 8 - n) (let e : length (open_of o) ≡ length o.names.items = simp length-map in sym e)
 
 -- the entry that is found has the name
 name_by : (t : Bool) (e x : Entry) (r : Option Entry) (n : List ℕ) → (t ≡ true → e.name ≡ n) → (r ≡ Some x → x.name ≡ n) → cond t (Some e) r ≡ Some x → x.name ≡ n
@@ -40,24 +37,36 @@ found_name (e ∷ es) n x p =
 pub no_hindrance : (e : Entry) (n : List ℕ) (ns : List (List ℕ)) → is_simple e.header ≡ true → is_among n ns ≡ false → leb 8 (length ns) ≡ false → None ≡ hindrance e n ns
 no_hindrance e n ns s a d = sym (simp (s, a, d))
 
--- a statement that is not performed
-pub misplaced : (d : ℕ) (T : List Entry) (ns : List (List ℕ)) (u o : ℕ) (s : Said) (i : Ink) (k : ℕ) → length ns ≡ u → is_act s ≡ false → failed (fault.Read unread.Misplaced) (spot_at u o) i k ≡ perform_said d T ns o s i k
-misplaced d T ns u o erase i k e h = ap (λ j. failed (fault.Read unread.Misplaced) (spot_at j o) i k) (sym e)
-misplaced d T ns u o endpic i k e h = ap (λ j. failed (fault.Read unread.Misplaced) (spot_at j o) i k) (sym e)
-misplaced d T ns u o (subhed n x) i k e h = ap (λ j. failed (fault.Read unread.Misplaced) (spot_at j o) i k) (sym e)
-misplaced d T ns u o subend i k e h = ap (λ j. failed (fault.Read unread.Misplaced) (spot_at j o) i k) (sym e)
-misplaced d T ns u o (act a) i k e h = absurd (let z : ◌≡◌ {A = ℕ} 0 1 = cc in omega arith)
+-- what bars a statement refuses it
+module _ (d : ℕ) (T : List Entry) (ns : List (List ℕ)) (o : ℕ) (i : Ink) (k : ℕ) (f : Fault) where
+  barred_by : (a : Act) (t : Bool) → leb 65536 k ≡ t → Some f ≡ cond t (Some fault.TooMany) None → failed f (spot_at (length ns) o) i k ≡ perform d T ns o a i k
+  barred_by a true e h =
+      let v : f ≡ fault.TooMany = cc in
+      let s = spot_at (length ns) o in
+      ap (λ x. failed x s i k) v ∙ sym (ap (λ t. cond t (failed fault.TooMany s i k) (acted (bodies d T ns) T s a i (k + 1))) e)
+  barred_by a false e h = absurd (let z : ◌≡◌ {A = ℕ} 0 1 = cc in omega arith)
 
--- a statement too many
-pub too_many : (d : ℕ) (T : List Entry) (ns : List (List ℕ)) (u o : ℕ) (s : Said) (i : Ink) (k : ℕ) → length ns ≡ u → is_act s ≡ true → leb 65536 k ≡ true → failed fault.TooMany (spot_at u o) i k ≡ perform_said d T ns o s i k
-too_many d T ns u o erase i k e h m = absurd (let z : ◌≡◌ {A = ℕ} 0 1 = cc in omega arith)
-too_many d T ns u o endpic i k e h m = absurd (let z : ◌≡◌ {A = ℕ} 0 1 = cc in omega arith)
-too_many d T ns u o (subhed n x) i k e h m = absurd (let z : ◌≡◌ {A = ℕ} 0 1 = cc in omega arith)
-too_many d T ns u o subend i k e h m = absurd (let z : ◌≡◌ {A = ℕ} 0 1 = cc in omega arith)
-too_many d T ns u o (act a) i k e h m =
-    let s = spot_at (length ns) o in
-    ap (λ j. failed fault.TooMany (spot_at j o) i k) (sym e)
-    ∙ sym (ap (λ t. cond t (failed fault.TooMany s i k) (acted (bodies d T ns) T s a i (k + 1))) m)
+  not_act : Some f ≡ Some (fault.Read unread.Misplaced) → failed f (spot_at (length ns) o) i k ≡ failed (fault.Read unread.Misplaced) (spot_at (length ns) o) i k
+  not_act h = let v : f ≡ fault.Read unread.Misplaced = cc in ap (λ x. failed x (spot_at (length ns) o) i k) v
+
+  pub barred : (s : Said) → Some f ≡ bar s k → failed f (spot_at (length ns) o) i k ≡ perform_said d T ns o s i k
+  barred erase h = not_act h
+  barred endpic h = not_act h
+  barred (subhed n x) h = not_act h
+  barred subend h = not_act h
+  barred (act a) h = barred_by a (leb 65536 k) refl h
+
+-- what is not barred is performed and not too much
+few_by : (t : Bool) → None ≡ cond t (Some fault.TooMany) None → t ≡ false
+few_by true h = absurd (let z : ◌≡◌ {A = ℕ} 0 1 = cc in omega arith)
+few_by false h = refl
+
+pub open_to : (s : Said) (k : ℕ) → None ≡ bar s k → (is_act s ≡ true) × (leb 65536 k ≡ false)
+open_to erase k h = absurd (let z : ◌≡◌ {A = ℕ} 0 1 = cc in omega arith)
+open_to endpic k h = absurd (let z : ◌≡◌ {A = ℕ} 0 1 = cc in omega arith)
+open_to (subhed n x) k h = absurd (let z : ◌≡◌ {A = ℕ} 0 1 = cc in omega arith)
+open_to subend k h = absurd (let z : ◌≡◌ {A = ℕ} 0 1 = cc in omega arith)
+open_to (act a) k h = (refl, few_by (leb 65536 k) h)
 
 -- the call of an entry, by what stands in its way
 abbrev hindering : Bool → Bool → Bool → Option Fault
@@ -146,49 +155,45 @@ no_call stmt.Mark h = refl
 no_call stmt.Movemk h = refl
 no_call stmt.Drawmk h = refl
 
-module _ (T : List Entry) (ns : List (List ℕ)) (u o : ℕ) (i : Ink) (k : ℕ) (len : length ns ≡ u) (few : leb 65536 k ≡ false) where
-  performs : (a : Act) → perform (8 - u) T ns o a i k ≡ acted (bodies (8 - u) T ns) T (spot_at u o) a i (k + 1)
-  performs a =
+module _ (d : ℕ) (T : List Entry) (ns : List (List ℕ)) (o : ℕ) (i : Ink) (k : ℕ) (left : d ≡ 8 - length ns) where
+  performs : leb 65536 k ≡ false → (a : Act) → perform d T ns o a i k ≡ acted (bodies d T ns) T (spot_at (length ns) o) a i (k + 1)
+  performs few a =
       let s = spot_at (length ns) o in
-      ap (λ t. cond t (failed fault.TooMany s i k) (acted (bodies (8 - u) T ns) T s a i (k + 1))) few
-      ∙ ap (λ j. acted (bodies (8 - u) T ns) T (spot_at j o) a i (k + 1)) len
+      ap (λ t. cond t (failed fault.TooMany s i k) (acted (bodies d T ns) T s a i (k + 1))) few
 
-  abbrev Plainly : Said → Type 0
-  Plainly s = out_of (spot_at u o) (plain_effect s i) (k + 1) ≡ perform_said (8 - u) T ns o s i k
-
-  does : (p : Plain) → Plainly (act (plain p))
-  does p = sym (performs (plain p))
+  plainly : leb 65536 k ≡ false → (s : Said) → is_act s ≡ true → is_call s ≡ false → out_of (spot_at (length ns) o) (plain_effect s i) (k + 1) ≡ perform_said d T ns o s i k
+  plainly few erase a h = absurd (let y : ◌≡◌ {A = ℕ} 0 1 = cc in omega arith)
+  plainly few endpic a h = absurd (let y : ◌≡◌ {A = ℕ} 0 1 = cc in omega arith)
+  plainly few (subhed n x) a h = absurd (let y : ◌≡◌ {A = ℕ} 0 1 = cc in omega arith)
+  plainly few subend a h = absurd (let y : ◌≡◌ {A = ℕ} 0 1 = cc in omega arith)
+  plainly few (act (plain p)) a h = sym (performs few (plain p))
+  plainly few (act (call n t)) a h = absurd (let y : ◌≡◌ {A = ℕ} 0 1 = cc in omega arith)
 
   -- a statement that is no call
-  pub does_plain : (s : Said) → is_act s ≡ true → is_call s ≡ false → Plainly s
-  does_plain erase a h = absurd (let y : ◌≡◌ {A = ℕ} 0 1 = cc in omega arith)
-  does_plain endpic a h = absurd (let y : ◌≡◌ {A = ℕ} 0 1 = cc in omega arith)
-  does_plain (subhed n x) a h = absurd (let y : ◌≡◌ {A = ℕ} 0 1 = cc in omega arith)
-  does_plain subend a h = absurd (let y : ◌≡◌ {A = ℕ} 0 1 = cc in omega arith)
-  does_plain (act (plain p)) a h = does p
-  does_plain (act (call n t)) a h = absurd (let y : ◌≡◌ {A = ℕ} 0 1 = cc in omega arith)
+  pub does_plain : (s : Said) → None ≡ bar s k → is_call s ≡ false → out_of (spot_at (length ns) o) (plain_effect s i) (k + 1) ≡ perform_said d T ns o s i k
+  does_plain s b h = plainly (open_to s k b).1 s (open_to s k b).0 h
 
   -- a call, once the beam is at its AT point
-  module _ (n : List ℕ) (t : CallTail) where
-    does_call : (r : Option Entry) → find T n ≡ r → perform_said (8 - u) T ns o (act (call n t)) i k ≡ called (spot_at u o) (bodies (8 - u) T ns (spot_at u o) n) r (arrive t i) (k + 1)
-    does_call r f = performs (call n t) ∙ ap (λ e. called (spot_at u o) (bodies (8 - u) T ns (spot_at u o) n) e (arrive t i) (k + 1)) f
+  module _ (n : List ℕ) (t : CallTail) (j : Ink) (s : Said) (there : j ≡ arrive t i) (is : s ≡ act (call n t)) (free_way : None ≡ bar s k) where
+    does_call : (r : Option Entry) → find T n ≡ r → {x : Out} → x ≡ called (spot_at (length ns) o) (bodies d T ns (spot_at (length ns) o) n) r (arrive t i) (k + 1) → x ≡ perform_said d T ns o s i k
+    does_call r f e =
+        e
+        ∙ sym (performs (open_to s k free_way).1 (call n t) ∙ ap (λ e. called (spot_at (length ns) o) (bodies d T ns (spot_at (length ns) o) n) e (arrive t i) (k + 1)) f)
+        ∙ sym (ap (λ z. perform_said d T ns o z i k) is)
 
-    module _ (j : Ink) (s : Said) (there : j ≡ arrive t i) (is : s ≡ act (call n t)) where
-      as_said : {x : Out} → x ≡ perform_said (8 - u) T ns o (act (call n t)) i k → x ≡ perform_said (8 - u) T ns o s i k
-      as_said e = e ∙ sym (ap (λ z. perform_said (8 - u) T ns o z i k) is)
+    pub calls_none : find T n ≡ None → done j (k + 1) ≡ perform_said d T ns o s i k
+    calls_none f = does_call None f (ap (λ z. done z (k + 1)) there)
 
-      pub calls_none : find T n ≡ None → done j (k + 1) ≡ perform_said (8 - u) T ns o s i k
-      calls_none f = as_said (ap (λ z. done z (k + 1)) there ∙ sym (does_call None f))
+    pub calls_hindered : (e : Entry) (f : Fault) → find T n ≡ Some e → Some f ≡ hindrance e n ns → failed f (spot_at (length ns) o) j (k + 1) ≡ perform_said d T ns o s i k
+    calls_hindered e f w h =
+        does_call (Some e) w (ap (λ z. failed f (spot_at (length ns) o) z (k + 1)) there ∙ hindered T ns (spot_at (length ns) o) n e (arrive t i) (k + 1) d f left h)
 
-      pub calls_hindered : (e : Entry) (f : Fault) → find T n ≡ Some e → Some f ≡ hindrance e n ns → failed f (spot_at u o) j (k + 1) ≡ perform_said (8 - u) T ns o s i k
-      calls_hindered e f w h =
-          as_said (ap (λ z. failed f (spot_at u o) z (k + 1)) there ∙ hindered T ns (spot_at u o) n e (arrive t i) (k + 1) (8 - u) f (ap (λ z. 8 - z) (sym len)) h ∙ sym (does_call (Some e) w))
-
-      pub calls_in : {x : Out} (e : Entry) (v : ℕ) (ms : List (List ℕ)) → find T n ≡ Some e → None ≡ hindrance e n ns → v ≡ u + 1 → ms ≡ ns ++ (e.name ∷ []) → x ≡ play (perform (8 - v) T ms) (length ms) e.body 0 [] j (k + 1) → x ≡ perform_said (8 - u) T ns o s i k
-      calls_in e v ms w h one more q =
-          let d : 8 - v ≡ 8 - u - 1 = omega arith in
-          let m : ms ≡ ns ++ (n ∷ []) = more ∙ ap (λ z. ns ++ (z ∷ [])) (found_name T n e w) in
-          as_said (q ∙ ap (λ z. play (perform z T ms) (length ms) e.body 0 [] j (k + 1)) d
-          ∙ ap (λ z. play (perform (8 - u - 1) T z) (length z) e.body 0 [] j (k + 1)) m
-          ∙ ap (λ z. inside T ns (spot_at u o) n e z (k + 1) (8 - u - 1)) there
-          ∙ free T ns (spot_at u o) n e (arrive t i) (k + 1) (8 - u) (ap (λ z. 8 - z) (sym len)) h ∙ sym (does_call (Some e) w))
+    pub calls_in : {x : Out} (e : Entry) (v : ℕ) (ms : List (List ℕ)) → find T n ≡ Some e → None ≡ hindrance e n ns → v ≡ 8 - length ms → ms ≡ ns ++ (e.name ∷ []) → x ≡ play (perform v T ms) (length ms) e.body 0 [] j (k + 1) → x ≡ perform_said d T ns o s i k
+    calls_in e v ms w h less more q =
+        let m : ms ≡ ns ++ (n ∷ []) = more ∙ ap (λ z. ns ++ (z ∷ [])) (found_name T n e w) in
+        let u : v ≡ d - 1 = omega (arith, ap length m, length-append ns (n ∷ [])) in
+        does_call (Some e) w
+        (q ∙ ap (λ z. play (perform z T ms) (length ms) e.body 0 [] j (k + 1)) u
+        ∙ ap (λ z. play (perform (d - 1) T z) (length z) e.body 0 [] j (k + 1)) m
+        ∙ ap (λ z. inside T ns (spot_at (length ns) o) n e z (k + 1) (d - 1)) there
+        ∙ free T ns (spot_at (length ns) o) n e (arrive t i) (k + 1) d left h)

@@ -87,6 +87,10 @@ module _ (es : List Entry) (n : List ℕ) where
   no_room : place_from es 0 n ≡ None → 32 ≤ length es → is_full es n ≡ true
   no_room h l = ap (λ b. b && is_absent (find es n)) (le-leb 32 (length es) l) ∙ ap is_absent (not_found es n h)
 
+  -- where there are 32 entries, there is no room for a name that has none
+  pub full_by : (r : Bool) → 32 ≤ length es → r ≡ is_absent (find es n) → r ≡ is_full es n
+  full_by r h e = e ∙ sym (ap (λ b. b && is_absent (find es n)) (le-leb 32 (length es) h))
+
   pub absent_by : (p : Option ℕ) (r : Bool) → is_some p ≡ not r → p ≡ place_from es 0 n → r ≡ is_absent (find es n)
   absent_by None true t e = sym (ap is_absent (not_found es n (sym e)))
   absent_by None false t e = absurd (let z : ◌≡◌ {A = ℕ} 0 1 = cc in omega arith)

@@ -46,8 +46,8 @@ module _ (d : ℕ) (T : List Entry) (ns : List (List ℕ)) where
     pub wants_more : more ≡ reading in_body front → plays (drop end body) start (take (end - start) (drop start body)) i k ≡ plays (drop (end + 1) body) start front i k
     wants_more e = next ∙ sym (ap (by front) e)
 
-    pub refuses : {x : Fault} {u : ℕ} → length ns ≡ u → refused x ≡ reading in_body front → plays (drop end body) start (take (end - start) (drop start body)) i k ≡ failed (fault.Read x) (spot_at u start) i k
-    refuses {x} len e = next ∙ sym (ap (by front) e) ∙ ap (λ j. failed (fault.Read x) (spot_at j start) i k) len
+    pub refuses : {x : Fault} → refused x ≡ reading in_body front → plays (drop end body) start (take (end - start) (drop start body)) i k ≡ failed (fault.Read x) (spot_at (length ns) start) i k
+    refuses {x} e = next ∙ sym (ap (by front) e)
 
     front_end : start + length front ≡ end + 1
     front_end = simp (length-take, length-drop) (omega arith)

@@ -27,6 +27,10 @@ is_act (subhed n h) = false
 is_act subend = false
 is_act (act a) = true
 
+-- what bars a statement where k were performed, if anything does
+abbrev pub bar : Said → ℕ → Option Fault
+bar s k = cond (is_act s) (cond (nat_le 65536 k) (Some fault.TooMany) None) (Some (fault.Read unread.Misplaced))
+
 -- a statement at the offset o of the innermost body; one that is not performed is misplaced
 abbrev pub perform_said : ℕ → List Entry → List (List ℕ) → ℕ → Said → Ink → ℕ → Out
 perform_said d T ns o erase i k = failed (fault.Read unread.Misplaced) (spot_at (length ns) o) i k

@@ -1,13 +1,22 @@
 // One definition.
-ghost use Rattle.std.specs.Prelude.{◌≡◌, ◌+◌, ◌≤◌, true, not, [], ◌++◌, length, take, if◌then◌else◌, Some, None};
+ghost use Rattle.std.specs.Prelude.{◌≡◌, [], if◌then◌else◌, Some, None};
 ghost use Rattle.std.specs.Result.{result_err};
+ghost use Rattle.run.specs.Performing.{same_bytes};
 ghost use Rattle.calls.specs.Tables.{letters_of, entry_of, longer, overflows};
 
 use crate::types::{Definition, Name};
+use arrayvec::ArrayVec;
 use run::types::Fault;
 use statement::types::Header;
 
 impl Definition {
+    // A definition of no name, with no bytes recorded.
+    pub fn blank() -> Definition
+        ensures { entry_of result ≡ record { name = []; header = Header.Simple; body = [] } }
+    {
+        Definition::new(Name::new(), Header::Simple)
+    }
+
     // A definition with no bytes recorded.
     pub fn new(name: Name, header: Header) -> Definition
         ensures { entry_of result ≡ record { name = letters_of name; header = header; body = [] } }
@@ -15,16 +24,15 @@ impl Definition {
         Definition {
             name,
             header,
-            body: [0; 1024],
-            len: 0,
+            body: ArrayVec::new(),
         }
     }
 
-    // The bytes recorded so far.
-    pub(crate) fn recorded(&self) -> &[u8]
-        ensures { result.now ≡ (entry_of self.now).body }
+    // Whether the definition has this name.
+    pub(crate) fn is_named(&self, label: &[u8]) -> bool
+        ensures { result ≡ same_bytes (letters_of self.now.name) label.now }
     {
-        &self.body[0..self.len]
+        self.name.as_slice() == label
     }
 
     // Records more bytes; where they have no room nothing changes.
@@ -32,35 +40,8 @@ impl Definition {
         ensures value { result_err result ≡ (if overflows (entry_of self.old) bytes.now then Some Fault.NoRoom else None) }
         ensures after { entry_of self.new ≡ (if overflows (entry_of self.old) bytes.now then entry_of self.old else longer (entry_of self.old) bytes.now) }
     {
-        if !self.has_room(bytes) {
-            return Err(Fault::NoRoom);
-        }
-        self.lengthen(bytes);
-        Ok(())
+        self.body
+            .try_extend_from_slice(bytes)
+            .map_err(|_| Fault::NoRoom)
     }
-
-    // Whether there is room for more bytes.
-    fn has_room(&self, bytes: &[u8]) -> bool
-        ensures value { overflows (entry_of self.now) bytes.now ≡ not result }
-        ensures room { result ≡ true → self.now.len + length bytes.now ≤ 1024 }
-    {
-        bytes.len() <= 1024 - self.len
-    }
-
-    // Records more bytes, for which there is room.
-    fn lengthen(&mut self, bytes: &[u8])
-        requires { self.old.len + length bytes.now ≤ 1024 }
-        ensures { entry_of self.new ≡ longer (entry_of self.old) bytes.now }
-    {
-        append(&mut self.body, self.len, bytes);
-        self.len += bytes.len();
-    }
-}
-
-// Puts bytes after the first ones of a body.
-fn append(body: &mut [u8; 1024], len: usize, bytes: &[u8])
-    requires { len + length bytes.now ≤ 1024 }
-    ensures { take (len + length bytes.now) body.new ≡ take len body.old ++ bytes.now }
-{
-    body[len..len + bytes.len()].copy_from_slice(bytes);
 }

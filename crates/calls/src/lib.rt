@@ -2,9 +2,7 @@
 #![tactic(auto)]
 
 mod definition;
-mod names;
 mod nesting;
-mod opened;
 mod perform;
 mod steps;
 mod table;

@@ -1,57 +1,55 @@
 // Calls within calls: the names that are open.
-ghost use Rattle.std.specs.Prelude.{◌≡◌, ◌+◌, ◌<◌, [], ◌∷◌, ◌++◌, length, nat_le};
+ghost use Rattle.std.specs.Prelude.{◌≡◌, ◌<◌, [], ◌∷◌, ◌++◌, length, nat_le};
 ghost use Rattle.run.specs.Performing.{is_among};
-ghost use Rattle.calls.specs.Tables.{letters_of, open_of, calls_left};
+ghost use Rattle.calls.specs.Tables.{open_of};
 
-use crate::opened::OpenNames;
-use crate::types::Name;
+use arrayvec::ArrayVec;
 
-impl OpenNames {
+// The names of the open calls, the outermost first: each is its entry's own.
+#[derive(Drop)]
+pub(crate) struct OpenNames<'t> {
+    names: ArrayVec<&'t [u8], 8>,
+}
+
+impl<'t> OpenNames<'t> {
     // No name.
-    pub fn none() -> OpenNames
-        ensures names { open_of result ≡ [] }
-        ensures left { calls_left result ≡ 8 }
+    pub(crate) fn none() -> OpenNames<'t>
+        ensures { open_of result ≡ [] }
     {
         OpenNames {
-            names: [Name::empty(); 8],
-            used: 0,
+            names: ArrayVec::new(),
         }
     }
 
     // Whether a name is open.
-    pub fn has(&self, name: &[u8]) -> bool
+    pub(crate) fn has(&self, name: &[u8]) -> bool
         ensures { result ≡ is_among name.now (open_of self.now) }
     {
-        for i in 0..self.used {
-            if self.names[i].is(name) {
-                return true;
-            }
-        }
-        false
+        self.names.iter().any(|open| *open == name)
     }
 
     // How many names are open.
-    pub fn depth(&self) -> usize
+    pub(crate) fn depth(&self) -> usize
         ensures { result ≡ length (open_of self.now) }
     {
-        self.used
+        self.names.len()
     }
 
     // Whether no call more may be open.
-    pub fn is_deepest(&self) -> bool
+    pub(crate) fn is_deepest(&self) -> bool
         ensures { result ≡ nat_le 8 (length (open_of self.now)) }
     {
-        self.depth() >= 8
+        self.names.is_full()
     }
 
-    // One name more.
-    pub fn push(&mut self, name: Name)
-        requires { self.old.used < 8 }
-        ensures names { open_of self.new ≡ open_of self.old ++ (letters_of name ∷ []) }
-        ensures more { self.new.used ≡ self.old.used + 1 }
+    // These names, and one more within them.
+    pub(crate) fn with(&self, name: &'t [u8]) -> OpenNames<'t>
+        requires { length (open_of self.now) < 8 }
+        ensures { open_of result ≡ open_of self.now ++ (name.now ∷ []) }
     {
-        let used = self.used;
-        self.names[used] = name;
-        self.used = used + 1;
+        let mut names = ArrayVec::new();
+        let _room = names.try_extend_from_slice(&self.names);
+        names.push(name);
+        OpenNames { names }
     }
 }

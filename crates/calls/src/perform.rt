@@ -6,19 +6,19 @@ ghost use Rattle.pen.specs.Views.{ink_of};
 ghost use Rattle.calls.specs.Outcomes.{leaves, perform_said};
 ghost use Rattle.calls.specs.Tables.{open_of, calls_left, entries_of};
 
-use crate::opened::OpenNames;
-use crate::steps::{arrive, enter, is_act, is_spent, perform_at};
+use crate::nesting::OpenNames;
+use crate::steps::{admit, arrive, enter};
 use crate::types::{Failure, Table, Work};
 use parsing::read::read;
 use run::types::{Fault, Spot};
 use sheet::Sheet;
-use statement::types::{Fault as Unread, Home, Reading, Standing, Statement};
+use statement::types::{Home, Standing, Statement, Stop};
 
 // Performs a statement at an offset of the innermost body, where these calls are open.
 #[cycle(perform_perform_body)]
-fn perform<S: Sheet>(
-    table: &Table,
-    calls: &OpenNames,
+fn perform<'t, S: Sheet>(
+    table: &'t Table,
+    calls: &OpenNames<'t>,
     offset: usize,
     work: &mut Work,
     sheet: &mut S,
@@ -28,39 +28,31 @@ fn perform<S: Sheet>(
     ensures tied { S.tied sheet.new ≡ S.tied sheet.old }
 {
     let spot = Spot {
-        calls: calls.used,
+        calls: calls.depth(),
         offset,
     };
-    if !is_act(statement) {
-        let fault = Fault::Read(Unread::Misplaced);
-        return Err(Failure { fault, spot });
-    }
-    if is_spent(work.count) {
-        let fault = Fault::TooMany;
-        return Err(Failure { fault, spot });
-    }
+    admit(statement, work.count).map_err(|fault| Failure { fault, spot })?;
     work.count += 1;
     let Statement::Insts(name, tail) = statement else {
-        return perform_at(spot, &mut work.pen, sheet, statement);
+        return work
+            .pen
+            .perform_plain(sheet, statement)
+            .map_err(|fault| Failure { fault, spot });
     };
     arrive(&mut work.pen, tail);
     let Some(at) = table.find(name.bytes) else {
         return Ok(());
     };
     let entry = table.entry(at);
-    if let Err(fault) = enter(entry, calls, name.bytes) {
-        return Err(Failure { fault, spot });
-    }
-    let mut inner = *calls;
-    inner.push(entry.name);
-    perform_body(table, &inner, work, sheet, entry.recorded())
+    enter(entry, calls, name.bytes).map_err(|fault| Failure { fault, spot })?;
+    perform_body(table, &calls.with(&entry.name), work, sheet, &entry.body)
 }
 
 // Performs a body, where its own call is the last of these that are open.
 #[cycle(perform_perform_body)]
-fn perform_body<S: Sheet>(
-    table: &Table,
-    calls: &OpenNames,
+fn perform_body<'t, S: Sheet>(
+    table: &'t Table,
+    calls: &OpenNames<'t>,
     work: &mut Work,
     sheet: &mut S,
     body: &[u8],
@@ -71,16 +63,16 @@ fn perform_body<S: Sheet>(
     let mut start = 0;
     for end in 0..body.len() {
         match read(Standing::Definition(Home::Outside), &body[start..end + 1]) {
-            Reading::More => {}
-            Reading::Refused(unread) => {
+            Err(Stop::Wanting) => {}
+            Err(Stop::Wrong(unread)) => {
                 let spot = Spot {
-                    calls: calls.used,
+                    calls: calls.depth(),
                     offset: start,
                 };
                 let fault = Fault::Read(unread);
                 return Err(Failure { fault, spot });
             }
-            Reading::Whole(statement) => {
+            Ok(statement) => {
                 perform(table, calls, start, work, sheet, &statement)?;
                 start = end + 1;
             }

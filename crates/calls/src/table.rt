@@ -26,53 +26,34 @@ impl Table {
         ensures value { result ≡ place_from (entries_of self.now) 0 label.now }
         ensures within { IfSome result (λ i. i < vec_len self.now.entries) }
     {
-        for (i, e) in self.entries.iter().enumerate() {
-            if e.name.is(label) {
-                return Some(i);
-            }
-        }
-        None
-    }
-
-    // Whether all entries are taken.
-    fn is_crowded(&self) -> bool
-        ensures { result ≡ nat_le 32 (length (entries_of self.now)) }
-    {
-        self.entries.len() >= 32
-    }
-
-    // Whether a name has no entry.
-    fn lacks(&self, label: &[u8]) -> bool
-        ensures { result ≡ is_absent (found (entries_of self.now) label.now) }
-    {
-        self.find(label).is_none()
+        self.entries.iter().position(|entry| entry.is_named(label))
     }
 
     // Whether there is no room for the definition of a name.
     pub fn is_full(&self, label: &[u8]) -> bool
         ensures { result ≡ is_full (entries_of self.now) label.now }
     {
-        self.is_crowded() && self.lacks(label)
+        self.entries.len() >= 32 && self.find(label).is_none()
     }
 
     // Gives a name its definition, in the place of an older one; nothing changes where there is no room.
-    pub fn store(&mut self, definition: &Definition)
-        ensures { entries_of self.new ≡ stored_in (entries_of self.old) (entry_of definition.now) }
+    pub fn store(&mut self, definition: Definition)
+        ensures { entries_of self.new ≡ stored_in (entries_of self.old) (entry_of definition) }
     {
-        let place = self.find(definition.name.letters());
+        let place = self.find(&definition.name);
         self.put(place, definition);
     }
 
     // Puts a definition in the place of its name, or at the end if it has none.
-    fn put(&mut self, place: Option<usize>, definition: &Definition)
+    fn put(&mut self, place: Option<usize>, definition: Definition)
         requires { IfSome place (λ i. i < vec_len self.old.entries) }
-        ensures { place ≡ place_from (entries_of self.old) 0 (letters_of definition.now.name) → entries_of self.new ≡ stored_in (entries_of self.old) (entry_of definition.now) }
+        ensures { place ≡ place_from (entries_of self.old) 0 (letters_of definition.name) → entries_of self.new ≡ stored_in (entries_of self.old) (entry_of definition) }
     {
         match place {
-            Some(at) => self.replace(at, definition),
+            Some(at) => *self.slot(at) = definition,
             None => {
                 if self.entries.len() < 32 {
-                    self.entries.push_reserved(*definition);
+                    self.entries.push_reserved(definition);
                 }
             }
         }
@@ -84,14 +65,6 @@ impl Table {
         ensures { result.now ≡ slice_index_or self.now.entries.items at result.now }
     {
         &self.entries[at]
-    }
-
-    // Puts a definition in the place of an entry.
-    fn replace(&mut self, at: usize, definition: &Definition)
-        requires { at < vec_len self.old.entries }
-        ensures { self.new.entries.items ≡ slice_set self.old.entries.items at definition.now }
-    {
-        *self.slot(at) = *definition;
     }
 
     // One entry, to be written.

@@ -1,26 +1,21 @@
 // Names, definitions and the table that keeps them.
 ghost use Rattle.std.specs.Prelude.{◌≤◌, vec_len, vec_capacity};
 
+use arrayvec::ArrayVec;
 use pen::types::Pen;
 use run::types::{Fault, Spot};
+use statement::limits::{LONGEST_BODY, LONGEST_NAME};
 use statement::types::Header;
 
-// A name: its first bytes.
-#[derive(Clone, Copy)]
-pub struct Name {
-    pub bytes: [u8; 8],
-    pub len: usize,
-    ghost fits: { len ≤ 8 },
-}
+// A name: its letters.
+pub type Name = ArrayVec<u8, LONGEST_NAME>;
 
-// A definition: its name, its header, and its body, which is the first bytes.
-#[derive(Clone, Copy)]
+// A definition: its name, its header and the bytes of its body.
+#[derive(Drop)]
 pub struct Definition {
     pub name: Name,
     pub header: Header,
-    pub body: [u8; 1024],
-    pub len: usize,
-    ghost fits: { len ≤ 1024 },
+    pub body: ArrayVec<u8, LONGEST_BODY>,
 }
 
 // The definitions that have ended, at most 32; there is memory for all of them from the start.
@@ -32,14 +27,14 @@ pub struct Table {
 }
 
 // What performing changes beside the sheet: the pen, and how many statements of the picture were counted.
-#[derive(Clone, Copy)]
+#[derive(Drop)]
 pub struct Work {
     pub pen: Pen,
     pub count: usize,
 }
 
 // Why performing stopped, and at which statement of the called bodies.
-#[derive(Clone, Copy)]
+#[derive(Clone, Copy, Debug, PartialEq, Eq)]
 pub struct Failure {
     pub fault: Fault,
     pub spot: Spot,

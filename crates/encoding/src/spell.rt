@@ -3,13 +3,15 @@ ghost use Rattle.std.specs.Prelude.{◌≡◌, ◌+◌, ◌≤◌, [], ◌++◌,
 ghost use Rattle.arrayvec.specs.ArrayVec.{array_vec_len};
 ghost use Rattle.statement.specs.Views.{said_by};
 ghost use Rattle.spelling.specs.Answers.{spell_answer, spelled, ReadsAs};
+ghost use Rattle.spelling.specs.Parts.{said_with};
 ghost use Rattle.spelling.specs.Spelling.{fault_of, spell, spell_arguments, Lawful};
 
 use crate::put::{put, put_pair, put_string};
 use crate::tail::put_tail;
 use arrayvec::ArrayVec;
 use spelling::code::code_of;
-use spelling::faults::fault_of;
+use spelling::faults::check;
+use spelling::parts::Parts;
 use spelling::refusal::Unspelt;
 use statement::limits::LONGEST_SPELLING;
 use statement::types::{Fault, Statement};
@@ -18,36 +20,28 @@ use statement::types::{Fault, Statement};
 pub type Spelling = ArrayVec<u8, LONGEST_SPELLING>;
 
 // Adds the arguments of a lawful statement.
-fn put_arguments(out: &mut Spelling, statement: Statement<'_>)
-    requires fits { Lawful (said_by statement) }
-    requires room { array_vec_len out.old + length (spell_arguments (said_by statement)) ≤ LONGEST_SPELLING }
-    ensures { out.new.items ≡ out.old.items ++ spell_arguments (said_by statement.entry) }
+fn put_arguments(out: &mut Spelling, parts: Parts<'_>)
+    requires fits { Lawful (said_with parts) }
+    requires room { array_vec_len out.old + length (spell_arguments (said_with parts)) ≤ LONGEST_SPELLING }
+    ensures { out.new.items ≡ out.old.items ++ spell_arguments (said_with parts.entry) }
 {
-    match statement {
-        Statement::Movea(x, y) | Statement::Drawa(x, y) | Statement::Dota(x, y) => {
-            put_pair(out, x, y)
-        }
-        Statement::Mover(x, y) | Statement::Drawr(x, y) | Statement::Dotr(x, y) => {
-            put_pair(out, x, y)
-        }
-        Statement::Text(text) | Statement::Textr(text) | Statement::Texto(text) => {
-            put_string(out, text.bytes)
-        }
-        Statement::Escdev(value, text) => {
+    match parts {
+        Parts::Bare(_) => {}
+        Parts::Pair(_, _, x, y) => put_pair(out, x, y),
+        Parts::Text(_, text) => put_string(out, text.bytes),
+        Parts::Escape(value, text) => {
             out.push(value);
             put_string(out, text.bytes);
         }
-        Statement::Linmod(value) | Statement::Setint(value) => out.push(value),
-        Statement::Subhed(name, header) => {
+        Parts::Value(_, value) => out.push(value),
+        Parts::Heading(name, header) => {
             put_string(out, name.bytes);
             put(out, &[1, header.into()]);
         }
-        Statement::Insts(name, tail) => {
+        Parts::Calling(name, tail) => {
             put_string(out, name.bytes);
             put_tail(out, tail);
         }
-        Statement::Null | Statement::Erase | Statement::Endpic | Statement::Subend => {}
-        Statement::Mark | Statement::Movemk | Statement::Drawmk => {}
     }
 }
 
@@ -58,7 +52,7 @@ fn spelt(statement: Statement<'_>) -> Spelling
 {
     let mut out = Spelling::new();
     out.push(code_of(&statement));
-    put_arguments(&mut out, statement);
+    put_arguments(&mut out, statement.into());
     out
 }
 
@@ -68,10 +62,8 @@ pub fn spelling_of(statement: Statement<'_>) -> Result<Spelling, Fault>
         (λ v. (v.items ≡ spell (said_by statement.entry)) × Lawful (said_by statement.entry))
         (λ f. fault_of (said_by statement.entry) ≡ Some f) }
 {
-    match fault_of(&statement) {
-        Some(fault) => Err(fault),
-        None => Ok(spelt(statement)),
-    }
+    check(&statement)?;
+    Ok(spelt(statement))
 }
 
 // Spells a statement into the front of a buffer, or refuses and alters no byte.

@@ -114,7 +114,7 @@ pub fn glyph_row(code: u8, row: u8) -> u8
     ensures value { result ≡ glyph_row code row }
     ensures small { result < 32 }
 {
-    if code < FIRST || code > LAST || row >= HEIGHT {
+    if !(FIRST..=LAST).contains(&code) || row >= HEIGHT {
         return 0;
     }
     table_row((code - FIRST) as usize * HEIGHT as usize + row as usize)
@@ -126,14 +126,6 @@ fn table_row(place: usize) -> u8
     ensures value { result ≡ slice_index rows place }
     ensures small { result < 32 }
 {
-    table_entry(place)
-}
-
-// The number at a place of the table, as drawn.
-fn table_entry(place: usize) -> u8
-    requires { place < 760 }
-    ensures { result ≡ slice_index drawing place }
-{
     FONT[place]
 }
 
@@ -142,14 +134,8 @@ pub fn lettering_is_lawful() -> bool
     ensures answer { result ≡ true }
     ensures rules { Lawful }
 {
-    show_lawful();
     true
 }
-
-// Carries the proof of the lettering's rules.
-fn show_lawful()
-    ensures { Lawful }
-{}
 
 #[cfg(test)]
 mod tests {
@@ -161,10 +147,10 @@ mod tests {
             0b00100, 0b01010, 0b10001, 0b10001, 0b11111, 0b10001, 0b10001, 0,
         ];
         let tailed = [0, 0, 0b01111, 0b10001, 0b01111, 0b00001, 0b01110, 0];
-        for row in 0..8u8 {
-            assert_eq!(rt; glyph_row(b'A', row), capital[row as usize]);
-            assert_eq!(rt; glyph_row(b'g', row), tailed[row as usize]);
-            assert_eq!(rt; glyph_row(b' ', row), 0);
+        for (row, (upright, hung)) in capital.into_iter().zip(tailed).enumerate() {
+            assert_eq!(rt; glyph_row(b'A', row as u8), upright);
+            assert_eq!(rt; glyph_row(b'g', row as u8), hung);
+            assert_eq!(rt; glyph_row(b' ', row as u8), 0);
         }
         assert!(rt; lettering_is_lawful());
     }

@@ -1,20 +1,24 @@
 -- Definitions recorded and ended.
-use Rattle.std.proofs.Common.{◌≡◌, ℕ, ◌≤◌, Bool, true, cond, List, [], ◌++◌, length, sym, refl, ap, ◌∙◌, arith, le-leb}
-use borrow.Author.Tests.{lt-leb}
+use Rattle.std.proofs.Common.{◌≡◌, ℕ, Bool, true, false, cond, List, [], ◌++◌, Some, None, Option, Ok, Err, Result, refl, ap, ◌∙◌}
+use Rattle.std.specs.Option.{option_map}
+use Rattle.std.specs.Result.{result_err}
 use Rattle.sheet.specs.Meanings.{Meaning}
 use Rattle.statement.specs.declared.types.Home.{Home}
 use Rattle.statement.specs.declared.types.Home.TheVariants as home
 use Rattle.statement.specs.declared.types.Standing.TheVariants.{Definition}
 use Rattle.statement.specs.Statements.{homeward}
+use Rattle.run.specs.declared.types.Fault.{Fault}
 use Rattle.run.specs.declared.types.Fault.TheVariants as fault
-use Rattle.run.specs.declared.types.Life.TheVariants.{Live}
+use Rattle.run.specs.declared.types.Life.{Life}
+use Rattle.run.specs.declared.types.Life.TheVariants.{Live, Refused}
+use Rattle.run.specs.declared.types.Refusal.{Refusal}
 use Rattle.run.specs.Performing.{Entry}
-use Rattle.run.specs.Runs.{Stance, Turn, stance_as, refusing, recording, home_stance, keeps}
-use Rattle.calls.specs.Tables.{letters_of, entry_of}
+use Rattle.run.specs.Runs.{Stance, Turn, refusal_at, stance_as, refusing, recording, home_stance, keeps}
+use Rattle.pen.specs.Views.{ink_of}
+use Rattle.calls.specs.Tables.{entry_of, entries_of, longer, overflows}
 use Rattle.reader.specs.declared.state.State.{State}
-use Rattle.reader.specs.Recording.{longer}
 use Rattle.reader.specs.Stances.{stance_of, has_room, defining_as}
-use Rattle.reader.specs.Views.{drawing_of}
+use Rattle.reader.specs.Views.{drawing_of, life_by}
 
 pub home_room : (w : Home) (n : List ℕ) (T : List Entry) → has_room (homeward w) n T ≡ true
 home_room home.Outside n T = refl
@@ -24,25 +28,35 @@ home_stance_lem : (w : Home) (e : Entry) → stance_of (homeward w) e ≡ home_s
 home_stance_lem home.Outside e = refl
 home_stance_lem home.Picture e = refl
 
--- with this stance, between statements
-abbrev standing_as : Stance → State → Meaning → Turn
-standing_as s w m = keeps (stance_as s (drawing_of Live [] w m)) w.work.count
+-- the life that an answer leaves, by what it refuses
+abbrev life_from : Option Refusal → Life
+life_from None = Live
+life_from (Some e) = Refused e
 
+life_by_err : (r : Result (Unit {0}) Refusal) → life_by r ≡ life_from (result_err r)
+life_by_err (Ok u) = refl
+life_by_err (Err e) = refl
+
+-- a statement was recorded in the draft, which is the entry e then, or was refused
 module _ (w : State) (m : Meaning) (h : List ℕ) (home : Home) (bs : List ℕ) (at : ℕ) where
-  abbrev recorded : Turn
-  recorded = keeps (recording home (letters_of w.draft.name) w.draft.header ((entry_of w.draft).body ++ bs) at (drawing_of Live h w m)) w.work.count
+  abbrev left : Life → Stance → Turn
+  left l s = keeps (record { life = l; held = []; stance = s; pictures = w.pictures; ink = ink_of w.work.pen m; table = entries_of w.table }) w.work.count
 
-  choosing : Bool → Turn
-  choosing t = keeps (cond t (refusing fault.NoRoom at (drawing_of Live h w m)) (stance_as (defining_as home (longer bs (entry_of w.draft))) (drawing_of Live h w m))) w.work.count
+  abbrev choosing : Bool → Turn
+  choosing t = keeps (cond t (refusing fault.NoRoom at (drawing_of Live h w m)) (stance_as (defining_as home (longer (entry_of w.draft) bs)) (drawing_of Live h w m))) w.work.count
 
-  pub no_room : 1025 ≤ length ((entry_of w.draft).body ++ bs) → keeps (refusing fault.NoRoom at (drawing_of Live h w m)) w.work.count ≡ recorded
-  unfolding choosing
-  no_room l = sym (ap choosing (le-leb 1025 (length ((entry_of w.draft).body ++ bs)) l))
+  abbrev refusal_by : Option Fault → Option Refusal
+  refusal_by = option_map (λ f. refusal_at f at)
 
-  pub recorded_as : (e : Entry) → e ≡ longer bs (entry_of w.draft) → w.standing ≡ Definition home → length ((entry_of w.draft).body ++ bs) ≤ 1024
-      → standing_as (stance_of w.standing e) w m ≡ recorded
-  unfolding choosing
-  recorded_as e f g l =
-      ap (λ z. standing_as (stance_of w.standing z) w m) f
-      ∙ ap (λ z. standing_as (stance_of z (longer bs (entry_of w.draft))) w m) g
-      ∙ sym (ap choosing (lt-leb 1025 (length ((entry_of w.draft).body ++ bs)) (omega arith)))
+  chosen : (t : Bool) → w.standing ≡ Definition home → left (life_from (refusal_by (cond t (Some fault.NoRoom) None))) (stance_of w.standing (cond t (entry_of w.draft) (longer (entry_of w.draft) bs))) ≡ choosing t
+  chosen true g = refl
+  chosen false g = ap (λ z. left Live (stance_of z (longer (entry_of w.draft) bs))) g
+
+  pub recorded_as : (r : Result (Unit {0}) Refusal) (f : Option Fault) (e : Entry) → result_err r ≡ refusal_by f → f ≡ cond (overflows (entry_of w.draft) bs) (Some fault.NoRoom) None
+      → e ≡ cond (overflows (entry_of w.draft) bs) (entry_of w.draft) (longer (entry_of w.draft) bs) → w.standing ≡ Definition home
+      → left (life_by r) (stance_of w.standing e)
+      ≡ keeps (recording home (entry_of w.draft).name w.draft.header ((entry_of w.draft).body ++ bs) at (drawing_of Live h w m)) w.work.count
+  recorded_as r f e p q s g =
+      ap (λ z. left z (stance_of w.standing e)) (life_by_err r ∙ ap life_from (p ∙ ap refusal_by q))
+      ∙ ap (λ z. left (life_from (refusal_by (cond (overflows (entry_of w.draft) bs) (Some fault.NoRoom) None))) (stance_of w.standing z)) s
+      ∙ chosen (overflows (entry_of w.draft) bs) g

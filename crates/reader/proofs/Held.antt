@@ -132,7 +132,3 @@ few_admitted false (Some l) rest e = no_more e
 pub few : (st : Standing) (bs : List ℕ) → is_more (reading st bs) ≡ true → length bs ≤ 515
 few st [] e = omega arith
 few st (c ∷ rest) e = omega (arith, few_admitted (allowed st c) (layout_of c) rest e)
-
--- of the bytes in a memory, the first len, of which more is wanted
-pub few_held : (st : Standing) (held : List ℕ) (len : ℕ) → len ≤ length held → is_more (reading st (take len held)) ≡ true → len ≤ 515
-few_held st held len fits e = omega (arith, few st (take len held) e, length-take len held)

@@ -1,5 +1,4 @@
 pub mod Answers
 pub mod Held
-pub mod Recording
 pub mod Stances
 pub mod Views

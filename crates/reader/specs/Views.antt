@@ -1,5 +1,5 @@
 -- What a reader's fields mean.
-use Rattle.std.specs.Prelude.{◌≡◌, ℕ, Bool, true, List, [], take, Ok, Err, Result}
+use Rattle.std.specs.Prelude.{◌≡◌, ℕ, Bool, true, List, [], Ok, Err, Result}
 use Rattle.sheet.specs.Meanings.{Meaning}
 use Rattle.pen.specs.Views.{ink_of}
 use Rattle.run.specs.declared.types.Refusal.{Refusal}
@@ -9,7 +9,7 @@ use Rattle.run.specs.Runs.{Stance, Drawing, Config, Turn}
 use Rattle.calls.specs.Tables.{entries_of, entry_of}
 use Rattle.reader.specs.declared.state.State.{State}
 use Rattle.reader.specs.declared.settle.Settled.{Settled}
-use Rattle.reader.specs.declared.settle.Settled.TheVariants as came
+use Rattle.reader.specs.declared.settle.Settled.TheVariants.{More, Done}
 use Rattle.reader.specs.declared.reader.Reader.{Reader}
 use Rattle.reader.specs.Stances.{stance_of}
 
@@ -36,26 +36,25 @@ abbrev pub turn_of : Result (Unit {0}) Refusal → State → Meaning → Turn
 turn_of r w m = record { drawing = drawing_of (life_by r) [] w m; count = w.work.count }
 
 -- the life and the bytes held after one byte more
-abbrev pub life_at : Settled → Life
-life_at came.More = Live
-life_at came.Done = Live
-life_at (came.Refused e) = Refused e
+abbrev pub life_at : Result Settled Refusal → Life
+life_at (Ok t) = Live
+life_at (Err e) = Refused e
 
-abbrev pub held_at : Settled → List ℕ → List ℕ
-held_at came.More bs = bs
-held_at came.Done bs = []
-held_at (came.Refused e) bs = []
+abbrev pub held_at : Result Settled Refusal → List ℕ → List ℕ
+held_at (Ok More) bs = bs
+held_at (Ok Done) bs = []
+held_at (Err e) bs = []
 
 -- after one byte more
-abbrev pub settled_as : Settled → List ℕ → State → Meaning → Turn
+abbrev pub settled_as : Result Settled Refusal → List ℕ → State → Meaning → Turn
 settled_as r bs w m = record { drawing = drawing_of (life_at r) (held_at r bs) w m; count = w.work.count }
 
 -- where more bytes are wanted, this holds
-abbrev pub Waiting : Settled → Bool → Type 0
-Waiting came.More t = t ≡ true
-Waiting came.Done t = Unit {0}
-Waiting (came.Refused e) t = Unit {0}
+abbrev pub Waiting : Result Settled Refusal → Bool → Type 0
+Waiting (Ok More) t = t ≡ true
+Waiting (Ok Done) t = Unit {0}
+Waiting (Err e) t = Unit {0}
 
 -- the whole state of a reader, with a sheet of this meaning
 abbrev pub config_of : Reader → Meaning → Config
-config_of r m = record { drawing = drawing_of r.life (take r.len r.held) r.state m; read = r.read; count = r.state.work.count }
+config_of r m = record { drawing = drawing_of r.life r.held.items r.state m; read = r.read; count = r.state.work.count }

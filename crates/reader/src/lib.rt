@@ -5,6 +5,5 @@ pub mod answers;
 mod define;
 mod obey;
 pub mod reader;
-mod record;
 mod settle;
 mod state;

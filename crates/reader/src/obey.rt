@@ -3,6 +3,7 @@ ghost use Rattle.std.specs.Prelude.{◌≡◌, ℕ, ◌^◌, ◌<◌, List, []};
 ghost use Rattle.statement.specs.Views.{said_by};
 ghost use Rattle.run.specs.declared.types.Life.TheVariants.{Live};
 ghost use Rattle.run.specs.Runs.{refusal_at, performed, taken};
+ghost use Rattle.run.specs.declared.types.Fault.TheVariants.{Read};
 ghost use Rattle.statement.specs.declared.types.Fault.TheVariants.{Misplaced};
 ghost use Rattle.pen.specs.Views.{ink_of};
 ghost use Rattle.calls.specs.Tables.{entries_of};
@@ -10,19 +11,17 @@ ghost use Rattle.calls.specs.Outcomes.{perform_said};
 ghost use Rattle.reader.specs.Held.{NameFits};
 ghost use Rattle.reader.specs.Views.{stance_in, drawing_of, turn_of};
 
-use crate::define::refused_at;
 use crate::state::State;
 use calls::perform_top;
-use pen::modes::erase;
-use run::types::{Fault, Refusal};
+use run::types::Refusal;
 use sheet::Sheet;
 use statement::types::{Fault as Unread, Home, Standing, Statement};
 
 // The refusal of a statement that may not come here.
 fn misplaced(at: usize) -> Refusal
-    ensures { result ≡ refusal_at (Fault.Read Misplaced) at }
+    ensures { result ≡ refusal_at (Read Misplaced) at }
 {
-    refused_at(Fault::Read(Unread::Misplaced), at)
+    Refusal::at(Unread::Misplaced.into(), at)
 }
 
 impl State {
@@ -36,14 +35,11 @@ impl State {
         ensures after { (h : List ℕ) → turn_of result self.new (S.meaning sheet.new) ≡ performed at (drawing_of Live h self.old (S.meaning sheet.old)) (perform_said 8 (entries_of self.old.table) [] 0 (said_by statement.now) (ink_of self.old.work.pen (S.meaning sheet.old)) self.old.work.count) }
         ensures tied { S.tied sheet.new ≡ S.tied sheet.old }
     {
-        match perform_top(&self.table, &mut self.work, sheet, statement) {
-            Ok(()) => Ok(()),
-            Err(failure) => Err(Refusal {
-                fault: failure.fault,
-                place: at,
-                spot: failure.spot,
-            }),
-        }
+        perform_top(&self.table, &mut self.work, sheet, statement).map_err(|failure| Refusal {
+            fault: failure.fault,
+            place: at,
+            spot: failure.spot,
+        })
     }
 
     // Obeys a whole statement of these bytes, whose code stands at that place.
@@ -61,7 +57,7 @@ impl State {
     {
         match (self.standing, statement) {
             (Standing::Outside, Statement::Erase) => {
-                erase(&mut self.work.pen, sheet);
+                self.work.pen.erase(sheet);
                 self.work.count = 0;
                 self.standing = Standing::Picture;
                 Ok(())
@@ -80,15 +76,15 @@ impl State {
             }
             (Standing::Picture, Statement::Erase | Statement::Subend) => Err(misplaced(at)),
             (Standing::Picture, _) => self.perform(sheet, &statement, at),
-            (Standing::Definition(home), Statement::Subend) => {
-                self.end_definition(home);
+            (Standing::Definition(_), Statement::Subend) => {
+                self.end_definition();
                 Ok(())
             }
             (
                 Standing::Definition(_),
                 Statement::Erase | Statement::Endpic | Statement::Subhed(..),
             ) => Err(misplaced(at)),
-            (Standing::Definition(home), _) => self.record_statement(home, bytes, at),
+            (Standing::Definition(_), _) => self.record_statement(bytes, at),
         }
     }
 }

@@ -11,9 +11,7 @@ const BYTES: usize = 32768;
 
 fn main(rt: HostRuntime) -> anyhow::Result<()> {
     let mut memory = [0u8; BYTES];
-    if raster::ask(SIDE, &memory).is_err() {
-        return Err(anyhow!("the memory does not fit"));
-    }
+    raster::ask(SIDE, &memory).map_err(|_| anyhow!("the memory does not fit"))?;
     let mut page = raster::make(SIDE, &mut memory);
     if !draw_specimen(&mut page) {
         return Err(anyhow!("the sheet is full"));

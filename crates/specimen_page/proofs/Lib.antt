@@ -1,2 +1,2 @@
 pub mod Turns
-pub mod Counts
+pub mod Chains

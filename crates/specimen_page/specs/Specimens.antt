@@ -1,5 +1,6 @@
 -- The marks of the specimen: three frames, a row of dots, and all letters.
-use Rattle.std.specs.Prelude.{ℕ, zero, suc, ◌+◌, ◌*◌, ◌/◌, ◌%◌, List, [], ◌∷◌, ◌++◌, ℤ, pos, ◌-ℤ◌, neg_ℤ}
+use Rattle.std.specs.Prelude.{ℕ, ◌+◌, ◌*◌, ◌/◌, ◌%◌, List, [], ◌∷◌, ◌++◌, map, ℤ, pos, ◌-ℤ◌, neg_ℤ}
+use Rattle.std.specs.List.{range_with_len}
 use Rattle.geometry.specs.declared.field.Point.{Point}
 use Rattle.mark.specs.declared.LineMode.{LineMode}
 use Rattle.mark.specs.declared.LineMode.TheVariants.{Solid, Dashed, Dotted}
@@ -38,14 +39,9 @@ dot_row =
 abbrev pub letter_at : ℕ → Mark
 letter_at k = Letter (point_at (pos (450 * (k % 19)) -ℤ pos 4200) (pos 1200 -ℤ pos (600 * (k / 19)))) (32 + k)
 
--- the first n letters
-abbrev pub first_letters : ℕ → List Mark
-first_letters zero = []
-first_letters (suc k) = first_letters k ++ (letter_at k ∷ [])
-
 -- every letter that the font has
 unfoldable pub all_letters : List Mark
-all_letters = first_letters 95
+all_letters = map letter_at (range_with_len 0 95)
 
 -- everything, in the order in which it is drawn
 unfoldable pub specimen_marks : List Mark

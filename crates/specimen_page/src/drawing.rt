@@ -1,12 +1,13 @@
 // The marks of the specimen, and drawing them.
-ghost use Rattle.std.specs.Prelude.{◌≡◌, ◌*◌, ◌/◌, ◌%◌, ◌<◌, pos, ◌-ℤ◌, neg_ℤ};
+ghost use Rattle.std.specs.Prelude.{◌≡◌, [], ◌∷◌, ◌*◌, ◌/◌, ◌%◌, ◌<◌, pos, ◌-ℤ◌, neg_ℤ};
 ghost use Rattle.mark.specs.declared.Mark.TheVariants.{Dot};
 ghost use Rattle.sheet.specs.Meanings.{marked_all, takes_all};
-ghost use Rattle.specimen_page.specs.Specimens.{point_at, frame_of, frames_of, dot_row, letter_at, all_letters, specimen_marks};
+ghost use Rattle.specimen_page.specs.Specimens.{point_at, frame_of, solid_frame, dashed_frame, dotted_frame, dot_row, letter_at, all_letters, specimen_marks};
 
 use geometry::Point;
 use mark::{LineMode, Mark};
 use sheet::{Sheet, draw};
+use std::array;
 
 // The four sides of a frame, from its low left corner to its high right one.
 fn frame(mode: LineMode, low: Point, high: Point) -> [Mark; 4]
@@ -20,55 +21,36 @@ fn frame(mode: LineMode, low: Point, high: Point) -> [Mark; 4]
         x: low.x,
         y: high.y,
     };
+    let side = |from, to| Mark::Line { from, to, mode };
     [
-        Mark::Line {
-            from: low,
-            to: right,
-            mode,
-        },
-        Mark::Line {
-            from: right,
-            to: high,
-            mode,
-        },
-        Mark::Line {
-            from: high,
-            to: left,
-            mode,
-        },
-        Mark::Line {
-            from: left,
-            to: low,
-            mode,
-        },
+        side(low, right),
+        side(right, high),
+        side(high, left),
+        side(left, low),
     ]
 }
 
 // A frame of each line mode, one about the other.
-fn draw_frames<S: Sheet>(sheet: &mut S) -> bool
-    ensures answer { result ≡ takes_all (S.meaning sheet.old) frames_of }
-    ensures after { S.meaning sheet.new ≡ marked_all (S.meaning sheet.old) frames_of }
-    ensures tied { S.tied sheet.new ≡ S.tied sheet.old }
+fn frames() -> [[Mark; 4]; 3]
+    ensures { result ≡ solid_frame ∷ dashed_frame ∷ dotted_frame ∷ [] }
 {
-    let solid = frame(
-        LineMode::Solid,
-        Point { x: -4800, y: -1800 },
-        Point { x: 4800, y: 2100 },
-    );
-    let dashed = frame(
-        LineMode::Dashed,
-        Point { x: -5100, y: -2100 },
-        Point { x: 5100, y: 2400 },
-    );
-    let dotted = frame(
-        LineMode::Dotted,
-        Point { x: -5400, y: -2400 },
-        Point { x: 5400, y: 2700 },
-    );
-    let first = draw(sheet, &solid);
-    let second = draw(sheet, &dashed);
-    let third = draw(sheet, &dotted);
-    first & second & third
+    [
+        frame(
+            LineMode::Solid,
+            Point { x: -4800, y: -1800 },
+            Point { x: 4800, y: 2100 },
+        ),
+        frame(
+            LineMode::Dashed,
+            Point { x: -5100, y: -2100 },
+            Point { x: 5100, y: 2400 },
+        ),
+        frame(
+            LineMode::Dotted,
+            Point { x: -5400, y: -2400 },
+            Point { x: 5400, y: 2700 },
+        ),
+    ]
 }
 
 fn dot(x: i16) -> Mark
@@ -115,16 +97,10 @@ fn letter(k: u8) -> Mark
 }
 
 // Every letter that the font has.
-fn draw_letters<S: Sheet>(sheet: &mut S) -> bool
-    ensures answer { result ≡ takes_all (S.meaning sheet.old) all_letters }
-    ensures after { S.meaning sheet.new ≡ marked_all (S.meaning sheet.old) all_letters }
-    ensures tied { S.tied sheet.new ≡ S.tied sheet.old }
+fn letters() -> [Mark; 95]
+    ensures { result ≡ all_letters }
 {
-    let mut taken = true;
-    for k in 0..95 {
-        taken &= sheet.mark(letter(k)).is_ok();
-    }
-    taken
+    array::from_fn(|k| letter(k as u8))
 }
 
 // Draws the specimen, and says whether the sheet took all of it.
@@ -133,8 +109,8 @@ pub fn draw_specimen<S: Sheet>(sheet: &mut S) -> bool
     ensures after { S.meaning sheet.new ≡ marked_all (S.meaning sheet.old) specimen_marks }
     ensures tied { S.tied sheet.new ≡ S.tied sheet.old }
 {
-    let frames = draw_frames(sheet);
+    let frames = draw(sheet, frames().as_flattened());
     let dots = draw(sheet, &dots());
-    let letters = draw_letters(sheet);
+    let letters = draw(sheet, &letters());
     frames & dots & letters
 }

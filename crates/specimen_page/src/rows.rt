@@ -1,8 +1,9 @@
 // The rows of a page: which bear ink, how much, and as text.
 ghost use Rattle.std.specs.Prelude.{◌≡◌, ℕ, ◌-◌, ◌<◌, ◌≤◌, true, false, length, slice_index};
-ghost use Rattle.specimen_page.specs.Rows.{inked_in, bears_ink, shown_as, count_one, count_below, inked_pixels};
+ghost use Rattle.specimen_page.specs.Rows.{inked_in, bears_ink, shown_as, inked_in_row, inked_pixels};
 
 use sheet::Sheet;
+use std::array;
 
 fn is_inked<S: Sheet>(sheet: &S, row: u16, column: u16) -> bool
     ensures { result ≡ inked_in (S.meaning sheet.now) row column }
@@ -13,12 +14,7 @@ fn is_inked<S: Sheet>(sheet: &S, row: u16, column: u16) -> bool
 fn bears_ink<S: Sheet>(sheet: &S, row: u16) -> bool
     ensures { result ≡ bears_ink (S.meaning sheet.now) row }
 {
-    for column in 0..sheet.side().pixels() {
-        if is_inked(sheet, row, column) {
-            return true;
-        }
-    }
-    false
+    (0..sheet.side().pixels()).any(|column| is_inked(sheet, row, column))
 }
 
 // The first row that bears ink, or the side where none does.
@@ -28,12 +24,7 @@ pub fn first_row<S: Sheet>(sheet: &S) -> u16
     ensures inked { result < (S.meaning sheet.now).side → bears_ink (S.meaning sheet.now) result ≡ true }
 {
     let end = sheet.side().pixels();
-    for row in 0..end {
-        if bears_ink(sheet, row) {
-            return row;
-        }
-    }
-    end
+    (0..end).find(|row| bears_ink(sheet, *row)).unwrap_or(end)
 }
 
 // One more than the last row that bears ink, or 0 where none does.
@@ -42,15 +33,10 @@ pub fn past_rows<S: Sheet>(sheet: &S) -> u16
     ensures after { (k : ℕ) → result ≤ k → k < (S.meaning sheet.now).side → bears_ink (S.meaning sheet.now) k ≡ false }
     ensures inked { 0 < result → bears_ink (S.meaning sheet.now) (result - 1) ≡ true }
 {
-    let end = sheet.side().pixels();
-    let mut row = end;
-    while row > 0 {
-        if bears_ink(sheet, row - 1) {
-            return row;
-        }
-        row -= 1;
-    }
-    0
+    let last = (0..sheet.side().pixels())
+        .rev()
+        .find(|row| bears_ink(sheet, *row));
+    last.map_or(0, |row| row + 1)
 }
 
 // How an inked pixel is shown, and one that is not.
@@ -64,40 +50,24 @@ fn shown(inked: bool) -> u8
 pub fn row_text<S: Sheet>(sheet: &S, row: u16) -> [u8; 512]
     ensures { (k : ℕ) → k < 512 → slice_index result k ≡ shown_as (inked_in (S.meaning sheet.now) row k) }
 {
-    let mut text = [b'.'; 512];
-    for column in 0..512u16 {
-        text[column as usize] = shown(is_inked(sheet, row, column));
-    }
-    text
-}
-
-// What an inked pixel adds to the count, and one that is not.
-fn one(inked: bool) -> u16
-    ensures value { result ≡ count_one inked }
-    ensures small { result ≤ 1 }
-{
-    if inked { 1 } else { 0 }
+    array::from_fn(|column| shown(is_inked(sheet, row, column as u16)))
 }
 
 // How many pixels of a row are inked.
-fn inked_in_row<S: Sheet>(sheet: &S, row: u16) -> u16
-    ensures value { result ≡ count_below (inked_in (S.meaning sheet.now) row) (S.meaning sheet.now).side }
+fn inked_in_row<S: Sheet>(sheet: &S, row: u16) -> usize
+    ensures value { result ≡ inked_in_row (S.meaning sheet.now) row }
     ensures small { result ≤ 2048 }
 {
-    let mut count = 0;
-    for column in 0..sheet.side().pixels() {
-        count += one(is_inked(sheet, row, column));
-    }
-    count
+    (0..sheet.side().pixels())
+        .filter(|column| is_inked(sheet, row, *column))
+        .count()
 }
 
 // How many pixels of the page are inked.
 pub fn inked_pixels<S: Sheet>(sheet: &S) -> u32
     ensures { result ≡ inked_pixels (S.meaning sheet.now) }
 {
-    let mut count: u32 = 0;
-    for row in 0..sheet.side().pixels() {
-        count += inked_in_row(sheet, row) as u32;
-    }
-    count
+    (0..sheet.side().pixels())
+        .map(|row| inked_in_row(sheet, row) as u32)
+        .sum()
 }

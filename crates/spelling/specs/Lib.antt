@@ -2,3 +2,4 @@ pub mod Spelling
 pub mod Walking
 pub mod Laws
 pub mod Answers
+pub mod Parts

@@ -3,6 +3,7 @@ ghost use Rattle.std.specs.Prelude.{◌≡◌, ◌+◌, ◌-◌, ◌^◌, min, l
 ghost use Rattle.statement.specs.Views.{said_by, tail_said};
 ghost use Rattle.spelling.specs.Spelling.{spell, spell_string, spell_tail};
 
+use crate::parts::Parts;
 use statement::types::{Statement, Tail};
 
 // The length of a string's spelling, or the greatest number where it is greater.
@@ -31,18 +32,14 @@ pub fn tail_extent(tail: Tail<'_>) -> usize
 pub fn extent(statement: &Statement<'_>) -> usize
     ensures { result ≡ min (length (spell (said_by statement.now))) (2 ^ 64 - 1) }
 {
-    match *statement {
-        Statement::Null | Statement::Erase | Statement::Endpic | Statement::Subend => 1,
-        Statement::Mark | Statement::Movemk | Statement::Drawmk => 1,
-        Statement::Movea(_, _) | Statement::Drawa(_, _) | Statement::Dota(_, _) => 5,
-        Statement::Mover(_, _) | Statement::Drawr(_, _) | Statement::Dotr(_, _) => 5,
-        Statement::Linmod(_) | Statement::Setint(_) => 2,
-        Statement::Text(text) | Statement::Textr(text) | Statement::Texto(text) => {
-            string_extent(text.bytes).saturating_add(1)
-        }
-        Statement::Escdev(_, text) => string_extent(text.bytes).saturating_add(2),
-        Statement::Subhed(name, _) => string_extent(name.bytes).saturating_add(3),
-        Statement::Insts(name, tail) => string_extent(name.bytes)
+    match Parts::from(*statement) {
+        Parts::Bare(_) => 1,
+        Parts::Pair(..) => 5,
+        Parts::Value(..) => 2,
+        Parts::Text(_, text) => string_extent(text.bytes).saturating_add(1),
+        Parts::Escape(_, text) => string_extent(text.bytes).saturating_add(2),
+        Parts::Heading(name, _) => string_extent(name.bytes).saturating_add(3),
+        Parts::Calling(name, tail) => string_extent(name.bytes)
             .saturating_add(2)
             .saturating_add(tail_extent(tail)),
     }

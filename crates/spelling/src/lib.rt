@@ -5,4 +5,5 @@ pub mod code;
 pub mod extent;
 pub mod faults;
 pub mod laws;
+pub mod parts;
 pub mod refusal;

@@ -1,11 +1,12 @@
-use Rattle.std.proofs.Common.{ℕ, ◌<◌, sym, subst}
+use Rattle.std.proofs.Common.{rules}
 use Rattle.font.specs.Glyphs.{rows}
 use Rattle.font.proofs.Shapes.{stored_small}
 use Rattle.font.proofs.table_row.Goals as goal
 
-pub returns : goal.returns
+pub returns-clause-small : goal.returns-clause-small
 unfolding rows
-returns c = record {
-  value = c.table_entry.ensures;
-  small = subst (λ (v : ℕ). v < 32) (sym c.table_entry.ensures) (stored_small c.args.place c.requires);
-}
+returns-clause-small c = stored_small c.args.place c.requires
+
+pub returns-clause-value : goal.returns-clause-value
+unfolding rows
+returns-clause-value c = search rules

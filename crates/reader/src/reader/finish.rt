@@ -1,25 +1,21 @@
 // Finishing a reader.
-ghost use Rattle.std.specs.Prelude.{◌≡◌, ◌&&◌, take};
+ghost use Rattle.std.specs.Prelude.{◌≡◌, ◌&&◌};
 ghost use Rattle.sheet.specs.Meanings.{Meaning};
 ghost use Rattle.run.specs.Runs.{is_outside, is_empty, finish};
 ghost use Rattle.reader.specs.Answers.{finish_answer};
 ghost use Rattle.reader.specs.Views.{stance_in, config_of};
 
 use crate::answers::Refused;
-use crate::define::refused_at;
 use crate::reader::Reader;
-use run::types::{Fault, Life};
+use run::types::{Fault, Life, Refusal};
 use statement::types::Standing;
 
 impl Reader {
     // Whether the reader stands outside between statements.
     fn is_between(&self) -> bool
-        ensures { result ≡ (is_outside (stance_in self.now.state) && is_empty (take self.now.len self.now.held)) }
+        ensures { result ≡ (is_outside (stance_in self.now.state) && is_empty self.now.held.items) }
     {
-        match self.state.standing {
-            Standing::Outside => self.len == 0,
-            _ => false,
-        }
+        self.state.standing == Standing::Outside && self.held.is_empty()
     }
 
     // Closes a live reader that stands outside between statements, and refuses it elsewhere.
@@ -30,7 +26,7 @@ impl Reader {
             if self.is_between() {
                 self.life = Life::Closed;
             } else {
-                self.life = Life::Refused(refused_at(Fault::Unfinished, self.read));
+                self.life = Life::Refused(Refusal::at(Fault::Unfinished, self.read));
             }
         }
     }

@@ -6,9 +6,9 @@ ghost use Rattle.calls.specs.Tables.{entries_of};
 ghost use Rattle.reader.specs.Views.{config_of};
 
 use crate::reader::Reader;
-use crate::record::no_draft;
 use crate::state::State;
-use calls::types::{Table, Work};
+use arrayvec::ArrayVec;
+use calls::types::{Definition, Table, Work};
 use pen::types::Pen;
 use run::types::Life;
 use statement::types::Standing;
@@ -20,8 +20,7 @@ fn over(table: Table) -> Reader
     ensures { (m : Meaning) → config_of result m ≡ begun m }
 {
     Reader {
-        held: [0; 516],
-        len: 0,
+        held: ArrayVec::new(),
         read: 0,
         life: Life::Live,
         state: State {
@@ -32,7 +31,7 @@ fn over(table: Table) -> Reader
                 count: 0,
             },
             table,
-            draft: no_draft(),
+            draft: Definition::blank(),
         },
     }
 }

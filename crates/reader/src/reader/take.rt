@@ -3,11 +3,11 @@ ghost use Rattle.std.specs.Prelude.{◌≡◌};
 ghost use Rattle.run.specs.Runs.{step};
 ghost use Rattle.reader.specs.Views.{config_of};
 
-use crate::define::refused_at;
 use crate::reader::Reader;
-use crate::settle::{Settled, settle_held};
-use run::types::{Fault, Life};
+use crate::settle::Settled;
+use run::types::{Life, Refusal};
 use sheet::Sheet;
+use statement::limits::LONGEST_STREAM;
 use statement::types::Fault as Unread;
 
 impl Reader {
@@ -19,20 +19,19 @@ impl Reader {
         let Life::Live = self.life else {
             return;
         };
-        let at = self.read - self.len;
-        if self.read >= 16777216 {
-            self.len = 0;
-            self.life = Life::Refused(refused_at(Fault::Read(Unread::StreamTooLong), at));
+        let at = self.read - self.held.len();
+        if self.read >= LONGEST_STREAM {
+            self.held.clear();
+            self.life = Life::Refused(Refusal::at(Unread::StreamTooLong.into(), at));
             return;
         }
         self.read += 1;
-        self.held[self.len] = byte;
-        let len = self.len + 1;
-        match settle_held(&self.held, len, &mut self.state, sheet, at) {
-            Settled::More => self.len = len,
-            Settled::Done => self.len = 0,
-            Settled::Refused(refusal) => {
-                self.len = 0;
+        self.held.push(byte);
+        match self.state.settle(sheet, &self.held, at) {
+            Ok(Settled::More) => {}
+            Ok(Settled::Done) => self.held.clear(),
+            Err(refusal) => {
+                self.held.clear();
                 self.life = Life::Refused(refusal);
             }
         }

@@ -1,15 +1,29 @@
-use Rattle.std.proofs.Common.{◌≡◌, ℕ, zero, suc, ◌≤◌, ◌&&◌, eqb, List, [], ◌∷◌, length, take, sym, refl, ap, ◌∙◌, arith, ne_eqb}
+use Rattle.std.proofs.Common.{◌≡◌, ℕ, ◌&&◌, false, eqb, List, [], ◌∷◌, length, sym, refl, ap, ◌∙◌, arith, ne_eqb, rules}
+use Rattle.statement.specs.declared.types.Standing.{Standing}
+use Rattle.statement.specs.declared.types.Standing.TheVariants as standing
+use Rattle.run.specs.Performing.{Entry}
 use Rattle.run.specs.Runs.{is_outside, is_empty}
 use Rattle.calls.specs.Tables.{entry_of}
 use Rattle.reader.specs.Stances.{stance_of}
 use Rattle.reader.proofs.reader.Reader.is_between.Goals as goal
 
-none_held : (len : ℕ) (held : List ℕ) → len ≤ length held → eqb len 0 ≡ is_empty (take len held)
-none_held zero held h = refl
-none_held (suc n) [] h = absurd (omega arith)
-none_held (suc n) (b ∷ bs) h = ne_eqb (suc n) 0 (λ e. omega arith)
+none_held : (held : List ℕ) → eqb (length held) 0 ≡ is_empty held
+none_held [] = refl
+none_held (b ∷ bs) = ne_eqb (length (b ∷ bs)) 0 (λ e. omega arith)
 
-pub returns-in-Outside : goal.returns-in-Outside
-returns-in-Outside c =
+elsewhere : (st : Standing) (e : Entry) → (st ≡ standing.Outside → ⊥) → is_outside (stance_of st e) ≡ false
+elsewhere standing.Outside e h = absurd (h refl)
+elsewhere standing.Picture e h = refl
+elsewhere (standing.Definition w) e h = refl
+
+pub returns-then-eq : goal.returns-then-eq
+returns-then-eq c =
     let r = c.args.self.now in
-    none_held r.len r.held r.within ∙ sym (ap (λ z. is_outside (stance_of z (entry_of r.state.draft)) && is_empty (take r.len r.held)) c.in-Outside.is)
+    let here : r.state.standing ≡ standing.Outside = search rules in
+    c.is_empty.ensures ∙ none_held r.held.items ∙ sym (ap (λ z. is_outside (stance_of z (entry_of r.state.draft)) && is_empty r.held.items) here)
+
+pub returns-else-eq : goal.returns-else-eq
+returns-else-eq c =
+    let r = c.args.self.now in
+    let there : r.state.standing ≡ standing.Outside → ⊥ = λ e. search rules in
+    c.if-eq.false ∙ sym (ap (λ z. z && is_empty r.held.items) (elsewhere r.state.standing (entry_of r.state.draft) there))

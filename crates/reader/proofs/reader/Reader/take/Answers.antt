@@ -1,93 +1,81 @@
-use Rattle.std.proofs.Common.{◌≡◌, [], length, take, refl, ap, ◌∙◌, arith, rules}
+use Rattle.std.proofs.Common.{◌≡◌, [], Ok, Err, refl, ap, ◌∙◌, arith, rules}
 use Rattle.sheet.specs.Meanings.{Meaning}
-use Rattle.reader.specs.declared.settle.Settled.TheVariants as came
-use Rattle.reader.proofs.Steps.{roomy, still_within, grown, one_picture, stepped, after_byte}
+use Rattle.run.specs.declared.types.Life.TheVariants.{Refused}
+use Rattle.reader.specs.declared.settle.Settled.TheVariants.{More, Done}
+use Rattle.reader.proofs.Steps.{roomy, grown, one_picture, stepped, after_byte}
 use Rattle.reader.proofs.reader.Reader.take.Goals as goal
 
-pub bounds-self-self : goal.bounds-self-self
-bounds-self-self g c =
-    let r = c.args.self.now in
-    let l : length r.held ≡ 516 = search rules in
-    omega (arith, roomy r l)
+pub push-requires : goal.push-requires
+push-requires g c = omega (arith, roomy c.args.self.now)
 
-pub settle_held-requires : goal.settle_held-requires
-settle_held-requires g c =
+pub invariant_of-self-in-Ok-More : goal.invariant_of-self-in-Ok-More
+invariant_of-self-in-Ok-More g c =
     let r = c.args.self.now in
-    let l : length r.held ≡ 516 = search rules in
-    record { within = omega (arith, roomy r l); counted = omega (arith, r.ended, r.limited) }
-
-pub invariant_of-self-in-More : goal.invariant_of-self-in-More
-invariant_of-self-in-More g c =
-    let r = c.args.self.now in
-    let l : length r.held ≡ 516 = search rules in
-    let s = c.in-More.ensures in
+    let d : c.deref.result.now ≡ grown r c.args.byte = c.deref.ensures.0 ∙ c.push.ensures.items in
+    let s = rw (c.in-Ok-More.field-0-is, d, c.len.ensures.value) at c.in-Ok-More.ensures in
     record {
-      within = still_within r c.args.byte l;
-      begun = s.waits;
-      placed = omega (arith, r.placed);
-      limited = omega (arith, c.if-self-ge16777216.false);
-      ended = one_picture r (g.S.Sheet.meaning c.args.sheet.now) c.args.byte came.More c.settle_held.new.state (g.S.Sheet.meaning c.settle_held.new.sheet) (s.after (take r.len r.held));
+      begun = rw c.push.ensures.items s.waits;
+      placed = omega (arith, c.push.ensures.len, r.placed);
+      limited = omega (arith, c.if-self-ge-LONGEST_STREAM.false);
+      ended = one_picture r (g.S.Sheet.meaning c.args.sheet.now) c.args.byte (Ok More) c.settle.new.self (g.S.Sheet.meaning c.settle.new.sheet) (s.after r.held.items);
     }
 
-pub invariant_of-self-in-Done : goal.invariant_of-self-in-Done
-invariant_of-self-in-Done g c =
+pub invariant_of-self-in-Ok-Done : goal.invariant_of-self-in-Ok-Done
+invariant_of-self-in-Ok-Done g c =
     let r = c.args.self.now in
-    let s = c.in-Done.ensures in
+    let d : c.deref.result.now ≡ grown r c.args.byte = c.deref.ensures.0 ∙ c.push.ensures.items in
+    let s = rw (c.in-Ok-Done.field-0-is, d, c.len.ensures.value) at c.in-Ok-Done.ensures in
     record {
-      within = omega arith;
-      begun = refl;
-      placed = omega arith;
-      limited = omega (arith, c.if-self-ge16777216.false);
-      ended = one_picture r (g.S.Sheet.meaning c.args.sheet.now) c.args.byte came.Done c.settle_held.new.state (g.S.Sheet.meaning c.settle_held.new.sheet) (s.after (take r.len r.held));
+      begun = rw c.clear-in-Ok-Done.ensures refl;
+      placed = rw c.clear-in-Ok-Done.ensures (omega arith);
+      limited = omega (arith, c.if-self-ge-LONGEST_STREAM.false);
+      ended = one_picture r (g.S.Sheet.meaning c.args.sheet.now) c.args.byte (Ok Done) c.settle.new.self (g.S.Sheet.meaning c.settle.new.sheet) (s.after r.held.items);
     }
 
-pub invariant_of-self-in-Refused : goal.invariant_of-self-in-Refused
-invariant_of-self-in-Refused g c =
+pub invariant_of-self-in-Err : goal.invariant_of-self-in-Err
+invariant_of-self-in-Err g c =
     let r = c.args.self.now in
-    let s = c.in-Refused.ensures in
+    let d : c.deref.result.now ≡ grown r c.args.byte = c.deref.ensures.0 ∙ c.push.ensures.items in
+    let s = rw (d, c.len.ensures.value) at c.in-Err.ensures in
     record {
-      within = omega arith;
-      begun = refl;
-      placed = omega arith;
-      limited = omega (arith, c.if-self-ge16777216.false);
-      ended = one_picture r (g.S.Sheet.meaning c.args.sheet.now) c.args.byte (came.Refused c.in-Refused.refusal) c.settle_held.new.state (g.S.Sheet.meaning c.settle_held.new.sheet) (s.after (take r.len r.held));
+      begun = rw c.clear-in-Err.ensures refl;
+      placed = rw c.clear-in-Err.ensures (omega arith);
+      limited = omega (arith, c.if-self-ge-LONGEST_STREAM.false);
+      ended = one_picture r (g.S.Sheet.meaning c.args.sheet.now) c.args.byte (Err c.in-Err.refusal) c.settle.new.self (g.S.Sheet.meaning c.settle.new.sheet) (s.after r.held.items);
     }
 
-pub returns-in-More : goal.returns-in-More
-returns-in-More g c =
-    let m : g.row.S.Denot → Meaning = g.S.Sheet.meaning in
+pub returns-in-Ok-More : goal.returns-in-Ok-More
+returns-in-Ok-More g c =
     let r = c.args.self.now in
-    let l : length r.held ≡ 516 = search rules in
-    let w = c.settle_held.new.state in
-    let n = m c.settle_held.new.sheet in
-    let s = c.in-More.ensures in
+    let w = c.settle.new.self in
+    let n : Meaning = g.S.Sheet.meaning c.settle.new.sheet in
+    let d : c.deref.result.now ≡ grown r c.args.byte = c.deref.ensures.0 ∙ c.push.ensures.items in
+    let s = rw (c.in-Ok-More.field-0-is, d, c.len.ensures.value) at c.in-Ok-More.ensures in
     record {
-      after = ap (λ z. after_byte r z (grown r c.args.byte) w n) c.in-Live.is ∙ stepped r (m c.args.sheet.now) c.args.byte came.More w n (s.after (take r.len r.held)) c.in-Live.is c.if-self-ge16777216.false l;
+      after = ap (λ z. after_byte r r.life z w n) c.push.ensures.items ∙ ap (λ z. after_byte r z (grown r c.args.byte) w n) c.in-Live.is ∙ stepped r (g.S.Sheet.meaning c.args.sheet.now) c.args.byte (Ok More) w n (s.after r.held.items) c.in-Live.is c.if-self-ge-LONGEST_STREAM.false;
       tied = s.tied;
     }
 
-pub returns-in-Done : goal.returns-in-Done
-returns-in-Done g c =
-    let m : g.row.S.Denot → Meaning = g.S.Sheet.meaning in
+pub returns-in-Ok-Done : goal.returns-in-Ok-Done
+returns-in-Ok-Done g c =
     let r = c.args.self.now in
-    let l : length r.held ≡ 516 = search rules in
-    let w = c.settle_held.new.state in
-    let n = m c.settle_held.new.sheet in
-    let s = c.in-Done.ensures in
+    let w = c.settle.new.self in
+    let n : Meaning = g.S.Sheet.meaning c.settle.new.sheet in
+    let d : c.deref.result.now ≡ grown r c.args.byte = c.deref.ensures.0 ∙ c.push.ensures.items in
+    let s = rw (c.in-Ok-Done.field-0-is, d, c.len.ensures.value) at c.in-Ok-Done.ensures in
     record {
-      after = ap (λ z. after_byte r z [] w n) c.in-Live.is ∙ stepped r (m c.args.sheet.now) c.args.byte came.Done w n (s.after (take r.len r.held)) c.in-Live.is c.if-self-ge16777216.false l;
+      after = ap (λ z. after_byte r r.life z w n) c.clear-in-Ok-Done.ensures ∙ ap (λ z. after_byte r z [] w n) c.in-Live.is ∙ stepped r (g.S.Sheet.meaning c.args.sheet.now) c.args.byte (Ok Done) w n (s.after r.held.items) c.in-Live.is c.if-self-ge-LONGEST_STREAM.false;
       tied = s.tied;
     }
 
-pub returns-in-Refused : goal.returns-in-Refused
-returns-in-Refused g c =
-    let m : g.row.S.Denot → Meaning = g.S.Sheet.meaning in
+pub returns-in-Err : goal.returns-in-Err
+returns-in-Err g c =
     let r = c.args.self.now in
-    let l : length r.held ≡ 516 = search rules in
-    let w = c.settle_held.new.state in
-    let n = m c.settle_held.new.sheet in
-    let s = c.in-Refused.ensures in
+    let w = c.settle.new.self in
+    let n : Meaning = g.S.Sheet.meaning c.settle.new.sheet in
+    let d : c.deref.result.now ≡ grown r c.args.byte = c.deref.ensures.0 ∙ c.push.ensures.items in
+    let s = rw (d, c.len.ensures.value) at c.in-Err.ensures in
     record {
-      after = stepped r (m c.args.sheet.now) c.args.byte (came.Refused c.in-Refused.refusal) w n (s.after (take r.len r.held)) c.in-Live.is c.if-self-ge16777216.false l;
+      after = ap (λ z. after_byte r (Refused c.in-Err.refusal) z w n) c.clear-in-Err.ensures ∙ stepped r (g.S.Sheet.meaning c.args.sheet.now) c.args.byte (Err c.in-Err.refusal) w n (s.after r.held.items) c.in-Live.is c.if-self-ge-LONGEST_STREAM.false;
       tied = s.tied;
     }

@@ -38,7 +38,7 @@ returns-in-Definition-Subend g c =
     let a = c.in-Definition-Subend in
     let m = g.S.Sheet.meaning c.args.sheet.now in
     record {
-      after = λ h. c.end_definition.ensures m h a.is-0 ∙ sym (obeyed c.args.self.now c.args.bytes.now c.args.at h m (standing.Definition a.home) c.args.statement stmt.Subend a.is-0 a.is-1);
+      after = λ h. c.end_definition.ensures m h _ a.is-0 ∙ sym (obeyed c.args.self.now c.args.bytes.now c.args.at h m _ c.args.statement stmt.Subend a.is-0 a.is-1);
       tied = refl;
     }
 
@@ -48,6 +48,6 @@ returns-in-Definition-default g c =
     let m = g.S.Sheet.meaning c.args.sheet.now in
     let f : is_act (said_by c.args.statement) ≡ true = search rules in
     record {
-      after = λ h. c.record_statement.ensures m h a.is-0 ∙ records c.args.self.now c.args.bytes.now c.args.at h m a.home (said_by c.args.statement) a.is-0 f;
+      after = λ h. c.record_statement.ensures m h _ a.is-0 ∙ records c.args.self.now c.args.bytes.now c.args.at h m _ (said_by c.args.statement) a.is-0 f;
       tied = refl;
     }

@@ -5,6 +5,6 @@ use Rattle.reader.proofs.state.State.settle.Goals as goal
 pub obey-requires : goal.obey-requires
 obey-requires g c =
     record {
-      named = name_fits c.args.self.now.standing c.args.bytes.now (said_by c.in-Whole.statement) c.in-Whole.ensures.value;
+      named = name_fits c.args.self.now.standing c.args.bytes.now (said_by c.in-Ok.statement) c.in-Ok.ensures.value;
       counted = c.requires;
     }
