@@ -27,21 +27,6 @@ fn call_of<'a>(name: Part<'a>, tail: Tail<'a>) -> Result<Statement<'a>, Stop>
     }
 }
 
-// The call of a name, which the piece follows.
-fn call_with<'a>(name: Part<'a>, piece: Piece<'a>) -> Result<Statement<'a>, Stop>
-    ensures value { shape_of result ≡ calling (bytes_of name.entry) (bytes_in piece.entry) }
-    ensures parts { LiesIn name.entry piece.entry.whole.now → ReadingLies result piece.entry.whole.now }
-    ensures stands { StringStands 1 name.entry → piece.entry.at ≡ name.entry.at + length (bytes_of name.entry) → ReadingStands result }
-{
-    let (size, rest) = piece.split_first().ok_or(Stop::Wanting)?;
-    if size as usize > LONGEST_TAIL {
-        return Err(Fault::WrongLayout.into());
-    }
-    let (tail, _) = rest.split_at(size as usize).ok_or(Stop::Wanting)?;
-    let tail = read_tail(tail).ok_or(Fault::WrongLayout)?;
-    call_of(name, tail)
-}
-
 // The statement of a name and a tail, from what follows the code.
 pub(crate) fn read_call(piece: Piece<'_>) -> Result<Statement<'_>, Stop>
     ensures value { shape_of result ≡ onto (string 8 (bytes_in piece.entry)) calling }
@@ -49,5 +34,11 @@ pub(crate) fn read_call(piece: Piece<'_>) -> Result<Statement<'_>, Stop>
     ensures stands { piece.entry.at ≡ 1 → ReadingStands result }
 {
     let (name, rest) = read_name(piece)?;
-    call_with(name, rest)
+    let (size, rest) = rest.split_first().ok_or(Stop::Wanting)?;
+    if size as usize > LONGEST_TAIL {
+        return Err(Fault::WrongLayout.into());
+    }
+    let (tail, _) = rest.split_at(size as usize).ok_or(Stop::Wanting)?;
+    let tail = read_tail(tail).ok_or(Fault::WrongLayout)?;
+    call_of(name, tail)
 }

@@ -11,7 +11,6 @@ use arguments::pair::read_pair;
 use arguments::piece::Piece;
 use arguments::plain::read_value;
 use arguments::text::{read_escape, read_text};
-use statement::codes::{layout_of, may_come};
 use statement::layout::Layout;
 use statement::types::{Fault, Standing, Statement, Stop};
 
@@ -39,8 +38,8 @@ pub fn read(standing: Standing, bytes: &[u8]) -> Result<Statement<'_>, Stop>
     ensures stands { ReadingStands result }
 {
     let (code, rest) = Piece::new(bytes).split_first().ok_or(Stop::Wanting)?;
-    let layout = layout_of(code).ok_or(Fault::UnknownCode)?;
-    if may_come(standing, code) {
+    let layout = Layout::try_from(code)?;
+    if standing.admits(code) {
         read_arguments(layout, rest)
     } else {
         Err(Fault::Misplaced.into())

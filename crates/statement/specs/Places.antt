@@ -30,27 +30,13 @@ TailStands at (tail.Coded a p) = NameStands at a
 
 -- a name or a text follows the code, a text follows an escape's value; a call's tail follows its name, its length and its code byte
 abbrev pub PartsStand : Statement → Type 0
-PartsStand stmt.Null = Unit {0}
-PartsStand stmt.Erase = Unit {0}
-PartsStand (stmt.Movea x y) = Unit {0}
-PartsStand (stmt.Mover x y) = Unit {0}
-PartsStand (stmt.Drawa x y) = Unit {0}
-PartsStand (stmt.Drawr x y) = Unit {0}
-PartsStand (stmt.Dota x y) = Unit {0}
-PartsStand (stmt.Dotr x y) = Unit {0}
 PartsStand (stmt.Text p) = StringStands 1 p
 PartsStand (stmt.Textr p) = StringStands 1 p
-PartsStand stmt.Endpic = Unit {0}
-PartsStand (stmt.Escdev v p) = StringStands 2 p
-PartsStand (stmt.Linmod v) = Unit {0}
-PartsStand (stmt.Setint v) = Unit {0}
 PartsStand (stmt.Texto p) = StringStands 1 p
+PartsStand (stmt.Escdev v p) = StringStands 2 p
 PartsStand (stmt.Subhed p h) = StringStands 1 p
-PartsStand stmt.Subend = Unit {0}
 PartsStand (stmt.Insts p t) = StringStands 1 p × TailStands (p.at + length (bytes_of p) + 2) t
-PartsStand stmt.Mark = Unit {0}
-PartsStand stmt.Movemk = Unit {0}
-PartsStand stmt.Drawmk = Unit {0}
+PartsStand _ = Unit {0}
 
 -- the same of the statement that was read, if any
 abbrev pub ReadingStands : Result Statement Stop → Type 0

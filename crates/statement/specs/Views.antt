@@ -79,27 +79,13 @@ TailLies (tail.Coded a p) bs = PartLies a bs
 
 -- every name and text of a statement is a part of these bytes, at the place that it has
 abbrev pub PartsLie : Statement → List ℕ → Type 0
-PartsLie stmt.Null bs = Unit {0}
-PartsLie stmt.Erase bs = Unit {0}
-PartsLie (stmt.Movea x y) bs = Unit {0}
-PartsLie (stmt.Mover x y) bs = Unit {0}
-PartsLie (stmt.Drawa x y) bs = Unit {0}
-PartsLie (stmt.Drawr x y) bs = Unit {0}
-PartsLie (stmt.Dota x y) bs = Unit {0}
-PartsLie (stmt.Dotr x y) bs = Unit {0}
 PartsLie (stmt.Text p) bs = LiesIn p bs
 PartsLie (stmt.Textr p) bs = LiesIn p bs
-PartsLie stmt.Endpic bs = Unit {0}
-PartsLie (stmt.Escdev v p) bs = LiesIn p bs
-PartsLie (stmt.Linmod v) bs = Unit {0}
-PartsLie (stmt.Setint v) bs = Unit {0}
 PartsLie (stmt.Texto p) bs = LiesIn p bs
+PartsLie (stmt.Escdev v p) bs = LiesIn p bs
 PartsLie (stmt.Subhed p h) bs = LiesIn p bs
-PartsLie stmt.Subend bs = Unit {0}
 PartsLie (stmt.Insts p t) bs = LiesIn p bs × TailLies t bs
-PartsLie stmt.Mark bs = Unit {0}
-PartsLie stmt.Movemk bs = Unit {0}
-PartsLie stmt.Drawmk bs = Unit {0}
+PartsLie _ bs = Unit {0}
 
 -- the same of the statement that was read, if any
 abbrev pub ReadingLies : Result Statement Stop → List ℕ → Type 0

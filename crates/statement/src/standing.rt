@@ -1,11 +1,24 @@
-// Where one stands after a statement.
+// What may come where one stands, and where one stands after it.
 ghost use Rattle.std.specs.Prelude.{◌≡◌};
-ghost use Rattle.statement.specs.Statements.{onwards};
+ghost use Rattle.statement.specs.Statements.{allowed, onwards};
 ghost use Rattle.statement.specs.Views.{said_by};
 
 use crate::types::{Home, Standing, Statement};
 
 impl Standing {
+    // Whether a code may come here: 1 ERASE, 10 ENDPIC, 15 SUBHED, 16 SUBEND.
+    pub fn admits(self, code: u8) -> bool
+        ensures { result ≡ allowed self code }
+    {
+        match (self, code) {
+            (Standing::Outside, 1 | 15) => true,
+            (Standing::Outside, _) => false,
+            (Standing::Picture, 1 | 16) => false,
+            (Standing::Definition(_), 1 | 10 | 15) => false,
+            (Standing::Picture | Standing::Definition(_), _) => true,
+        }
+    }
+
     // Where one stands after a statement that came here.
     pub fn after(self, statement: &Statement<'_>) -> Standing
         ensures { result ≡ onwards self (said_by statement.now) }
