@@ -22,6 +22,7 @@ fn long_count(high: u8, low: u8) -> Result<usize, Stop>
 }
 
 // The count at the front of a piece, and the piece after it.
+// (By slice patterns, a rule of the project: a short byte, or a high and a low one.)
 fn read_count(piece: Piece<'_>) -> Result<(usize, Piece<'_>), Stop>
     ensures value { count_front result ≡ count (bytes_in piece.entry) }
     ensures taken { CountTaken result piece.entry }

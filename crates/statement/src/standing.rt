@@ -7,6 +7,7 @@ use crate::types::{Home, Standing, Statement};
 
 impl Standing {
     // Whether a code may come here: 1 ERASE, 10 ENDPIC, 15 SUBHED, 16 SUBEND.
+    // (A match on the standing with the code byte is a rule of the project.)
     pub fn admits(self, code: u8) -> bool
         ensures { result ≡ allowed self code }
     {

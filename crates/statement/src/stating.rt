@@ -26,6 +26,7 @@ impl From<Bare> for Statement<'_> {
 
 impl<'a> Statement<'a> {
     // The statement that goes to a point.
+    // (Four values and no struct: a struct would be taken apart at once, into a variant of two numbers.)
     pub fn travel(trace: Trace, aim: Aim, x: i16, y: i16) -> Statement<'a>
         ensures said { said_by result ≡ act (plain (travel trace aim x y)) }
         ensures parts { (bs : List ℕ) → PartsLie result bs }

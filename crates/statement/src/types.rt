@@ -46,7 +46,7 @@ pub enum Header {
     Both = 0xC0,
 }
 
-// A part of a statement's own bytes, with the place where it begins in them.
+// A part of a statement's own bytes, with the place where it begins in them; no byte is copied, a rule of the project.
 #[derive(Clone, Copy, Debug, PartialEq, Eq)]
 pub struct Part<'a> {
     pub at: usize,
