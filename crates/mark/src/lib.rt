@@ -8,9 +8,11 @@ use geometry::Point;
 
 mod coverage;
 mod laws;
+mod letter;
 
-pub use coverage::{has_dot, letter_dot, letter_inks, line_inks, on_sheet};
+pub use coverage::{line_inks, on_sheet};
 pub use laws::coverage_stands;
+pub use letter::Letter;
 
 // Which of its points a line inks.
 #[derive(Clone, Copy, Debug, PartialEq, Eq)]

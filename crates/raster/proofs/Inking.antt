@@ -105,8 +105,8 @@ module _ (n : ℕ) (parts : ℤ × ℤ → ℕ → Bool) (begun : List ℕ) (k :
 pub point_own : (p q : ℤ × ℤ) (mode : LineMode) (k : ℕ) (z : ℤ × ℤ) → inks_point mode k ≡ true → z ≡ point_of p q k → (w : ℤ × ℤ) → line_inks_at p q mode w k ≡ same_pixel z w
 point_own p q mode k z pick at w = λ i. pick i && same_pixel (sym at i) w
 
-pub dot_own : (n m : ℕ) (at : Point) (code row column : ℕ) (z : ℤ × ℤ) → m ≡ n → has_dot code row column ≡ true → z ≡ letter_dot m at row column → (w : ℤ × ℤ) → letter_inks_at n at code w row column ≡ same_pixel z w
-dot_own n m at code row column z e dot here w = λ i. dot i && same_pixel (sym (here ∙ ap (λ (j : ℕ). letter_dot j at row column) e) i) w
+pub dot_own : (n : ℕ) (at : Point) (code row column : ℕ) (z : ℤ × ℤ) → has_dot code row column ≡ true → z ≡ letter_dot n at row column → (w : ℤ × ℤ) → letter_inks_at n at code w row column ≡ same_pixel z w
+dot_own n at code row column z dot here w = λ i. dot i && same_pixel (sym here i) w
 
 -- a page that gained a mark's pixels means the sheet with the mark
 pub page_gains : (n m : ℕ) (bytes after : List ℕ) (mark : Mark) → m ≡ n → Gained n bytes after (reaches n mark) → bit_meaning m after ≡ gains (bit_meaning n bytes) mark None

@@ -7,8 +7,8 @@ ghost use Rattle.raster.specs.Bits.{Gained, bit_meaning};
 
 use crate::asking::ask;
 use crate::page::{BitSheet, make};
-use geometry::{Line, Point, Side, pixel_of};
-use mark::{LineMode, Mark, has_dot, letter_dot, on_sheet};
+use geometry::{Line, Side, pixel_of};
+use mark::{Letter, LineMode, Mark, on_sheet};
 use sheet::{Refusal, Sheet, Unfit};
 
 // Inks the points of a line that its mode inks.
@@ -25,26 +25,26 @@ fn put_line(sheet: &mut BitSheet, line: Line, mode: LineMode)
 }
 
 // Inks the dots of one row of a letter.
-fn put_row(sheet: &mut BitSheet, at: Point, code: u8, row: u8)
+fn put_row(sheet: &mut BitSheet, letter: Letter, row: u8)
     ensures side { sheet.new.side.pixels ≡ sheet.old.side.pixels }
     ensures named { sheet.new.bytes.ghost_name ≡ sheet.old.bytes.ghost_name }
-    ensures gained { Gained sheet.old.side.pixels sheet.old.bytes.now sheet.new.bytes.now (λ w. any_below (letter_inks_at sheet.old.side.pixels at code w row) 5) }
+    ensures gained { Gained sheet.old.side.pixels sheet.old.bytes.now sheet.new.bytes.now (λ w. any_below (letter_inks_at letter.side.pixels letter.at letter.code w row) 5) }
 {
     for column in 0..5u8 {
-        if has_dot(code, row, column) {
-            sheet.put(letter_dot(sheet.side, at, row, column));
+        if letter.has_dot(row, column) {
+            sheet.put(letter.dot(row, column));
         }
     }
 }
 
 // Inks a letter of the font.
-fn put_letter(sheet: &mut BitSheet, at: Point, code: u8)
+fn put_letter(sheet: &mut BitSheet, letter: Letter)
     ensures side { sheet.new.side.pixels ≡ sheet.old.side.pixels }
     ensures named { sheet.new.bytes.ghost_name ≡ sheet.old.bytes.ghost_name }
-    ensures gained { Gained sheet.old.side.pixels sheet.old.bytes.now sheet.new.bytes.now (letter_inks sheet.old.side.pixels at code) }
+    ensures gained { Gained sheet.old.side.pixels sheet.old.bytes.now sheet.new.bytes.now (letter_inks letter.side.pixels letter.at letter.code) }
 {
     for row in 0..8u8 {
-        put_row(sheet, at, code, row);
+        put_row(sheet, letter, row);
     }
 }
 
@@ -58,7 +58,10 @@ fn put_mark(sheet: &mut BitSheet, mark: Mark)
         Mark::Line { from, to, mode } => {
             put_line(sheet, Line::between(sheet.side, from, to), mode);
         }
-        Mark::Letter { at, code } => put_letter(sheet, at, code),
+        Mark::Letter { at, code } => {
+            let side = sheet.side;
+            put_letter(sheet, Letter { side, at, code });
+        }
     }
 }
 

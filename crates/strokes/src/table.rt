@@ -9,7 +9,7 @@ ghost use Rattle.strokes.specs.Tables.{asked, inked_by, table_meaning};
 
 use crate::records::{Kind, Stroke};
 use geometry::{Line, Point, Side, pixel_of};
-use mark::{Mark, letter_inks, line_inks, on_sheet};
+use mark::{Letter, Mark, line_inks, on_sheet};
 use sheet::{Refusal, Sheet};
 
 // A sheet over lent records: the first `count` of them are its strokes so far.
@@ -108,16 +108,14 @@ impl<'a> Sheet for StrokeTable<'a> {
                         }
                     }
                     Kind::Letter => {
+                        let letter = Letter {
+                            side: self.side,
+                            at: stroke.from,
+                            code: stroke.code,
+                        };
                         for row in 0..8 {
                             for column in 0..5 {
-                                if letter_inks(
-                                    self.side,
-                                    stroke.from,
-                                    stroke.code,
-                                    row,
-                                    column,
-                                    pixel,
-                                ) {
+                                if letter.inks(row, column, pixel) {
                                     break 'strokes true;
                                 }
                             }

@@ -11,8 +11,9 @@ loop-column-preserved c =
     let t = c.args.sheet.now in
     let n = t.side.pixels in
     let s = c.loop-column.sheet in
-    let at = c.args.at in
-    let code = c.args.code in
+    let m = c.args.letter.side.pixels in
+    let at = c.args.letter.at in
+    let code = c.args.letter.code in
     let row = c.args.row in
     let k = c.loop-column.column in
     elim c.if-has_dot.branch [
@@ -21,16 +22,16 @@ loop-column-preserved c =
         ap (λ x. x.bytes.ghost_name) w.sheet-is ∙ w.put.ensures.named ∙ c.loop-column.invariant.1,
         λ z.
             ap (λ x. inked_at n x.bytes.now z) w.sheet-is
-            ∙ part_more n (λ v. letter_inks_at n at code v row) t.bytes.now k s.side.pixels s.bytes.now _ (same_pixel w.letter_dot.result) c.loop-column.invariant.0
-            (dot_own n s.side.pixels at code row k w.letter_dot.result c.loop-column.invariant.0 (sym w.if-has_dot.ensures) w.letter_dot.ensures) w.put.ensures.gained c.loop-column.invariant.2 z,
+            ∙ part_more n (λ v. letter_inks_at m at code v row) t.bytes.now k s.side.pixels s.bytes.now _ (same_pixel w.dot.result) c.loop-column.invariant.0
+            (dot_own m at code row k w.dot.result (sym w.if-has_dot.ensures) w.dot.ensures) w.put.ensures.gained c.loop-column.invariant.2 z,
       )
       | else-has_dot w ↦ (
         ap (λ x. x.side.pixels) w.sheet-is ∙ c.loop-column.invariant.0,
         ap (λ x. x.bytes.ghost_name) w.sheet-is ∙ c.loop-column.invariant.1,
         λ z.
             ap (λ x. inked_at n x.bytes.now z) w.sheet-is
-            ∙ part_passed n (λ v. letter_inks_at n at code v row) t.bytes.now k s.bytes.now
-            (λ v. and_left (has_dot code row k) (same_pixel (letter_dot n at row k) v) (sym w.if-has_dot.ensures)) c.loop-column.invariant.2 z,
+            ∙ part_passed n (λ v. letter_inks_at m at code v row) t.bytes.now k s.bytes.now
+            (λ v. and_left (has_dot code row k) (same_pixel (letter_dot m at row k) v) (sym w.if-has_dot.ensures)) c.loop-column.invariant.2 z,
       )
     ]
 
@@ -39,4 +40,4 @@ returns-clause-gained c =
     let t = c.args.sheet.now in
     let n = t.side.pixels in
     let all : c.loop-column.column ≡ 5 = omega (arith, c.loop-column.auto.column-end, c.loop-column-test.false) in
-    parts_end n (λ v. letter_inks_at n c.args.at c.args.code v c.args.row) t.bytes.now c.loop-column.column c.loop-column.sheet.bytes.now 5 all c.loop-column.invariant.2
+    parts_end n (λ v. letter_inks_at c.args.letter.side.pixels c.args.letter.at c.args.letter.code v c.args.row) t.bytes.now c.loop-column.column c.loop-column.sheet.bytes.now 5 all c.loop-column.invariant.2

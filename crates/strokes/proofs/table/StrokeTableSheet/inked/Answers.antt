@@ -57,10 +57,10 @@ returns-then-line_inks-clause-value c =
     (line_reaches n (get_or ss i no_stroke) c.args.pixel line.from line.to c.loop-k.k c.in-Line.is c.between-line.ensures.from c.between-line.ensures.to
     (omega (arith, c.loop-k-test.true, c.points-k-end.ensures)) (sym c.if-line_inks.ensures))
 
-pub returns-then-letter_inks-clause-value : goal.returns-then-letter_inks-clause-value
-returns-then-letter_inks-clause-value c =
+pub returns-then-inks-clause-value : goal.returns-then-inks-clause-value
+returns-then-inks-clause-value c =
     let n = c.args.self.now.side.pixels in
     let ss = c.strokes-stroke-items.result.now in
     let i = c.loop-stroke.stroke-index in
     inked_found n i ss _ no_stroke c.args.pixel c.strokes-stroke-items.ensures.strokes c.loop-stroke-test.true (sym c.if-not-on_sheet.ensures)
-    (letter_reaches n (get_or ss i no_stroke) c.args.pixel c.loop-row.row c.loop-column.column c.in-Letter.is c.loop-row-test.true c.loop-column-test.true (sym c.if-letter_inks.ensures))
+    (letter_reaches n (get_or ss i no_stroke) c.args.pixel c.loop-row.row c.loop-column.column c.in-Letter.is c.loop-row-test.true c.loop-column-test.true (sym c.if-inks.ensures))

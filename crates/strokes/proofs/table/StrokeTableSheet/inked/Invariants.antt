@@ -13,8 +13,8 @@ invariant-loop-k l = any_below (line_inks_at l.line.from l.line.to l.stroke.mode
 
 -- no dot of the rows so far
 abbrev pub invariant-loop-row : goal.invariant-loop-row
-invariant-loop-row l = rows_ink l.self.side.pixels l.stroke.from l.stroke.code l.pixel l.row ≡ false
+invariant-loop-row l = rows_ink l.letter.side.pixels l.letter.at l.letter.code l.pixel l.row ≡ false
 
 -- no dot of the row so far
 abbrev pub invariant-loop-column : goal.invariant-loop-column
-invariant-loop-column l = any_below (letter_inks_at l.self.side.pixels l.stroke.from l.stroke.code l.pixel l.row) l.column ≡ false
+invariant-loop-column l = any_below (letter_inks_at l.letter.side.pixels l.letter.at l.letter.code l.pixel l.row) l.column ≡ false
