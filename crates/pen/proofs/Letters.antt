@@ -8,7 +8,7 @@ use Rattle.statement.specs.declared.layout.Manner.{Manner}
 use Rattle.statement.specs.declared.layout.Manner.TheVariants.{Onward, Restoring, Wrapping}
 use Rattle.run.specs.declared.types.Fault.{Fault}
 use Rattle.run.specs.Inks.{Ink, Drawn, good, stopped, and_then, go_to}
-use Rattle.run.specs.Texts.{is_printed, next_line, set_letter, control, break_line, set_code, set_codes, restored, set_text}
+use Rattle.run.specs.Texts.{is_printed, next_line, set_letter, control, break_line, set_code, set_codes}
 
 -- whether lines are broken
 abbrev pub is_wrapping : Manner → Bool
@@ -54,11 +54,3 @@ module _ (m : Manner) (bs : List ℕ) (k : ℕ) (i : Ink) where
 
   pub ends : length bs ≤ k → set_codes m (drop k bs) i ≡ good i
   ends h = let d = drop_all k bs h in simp d
-
-pub comes_back : (m : Manner) (bs : List ℕ) (i : Ink) → m ≡ Restoring → restored i.beam (set_codes Restoring bs i) ≡ set_text m bs i
-comes_back m bs i is = sym (ap (λ z. set_text z bs i) is)
-
-pub stays_behind : (m : Manner) (bs : List ℕ) (i : Ink) → (m ≡ Restoring → ⊥) → set_codes m bs i ≡ set_text m bs i
-stays_behind Onward bs i not = refl
-stays_behind Restoring bs i not = absurd (not refl)
-stays_behind Wrapping bs i not = refl

@@ -1,8 +1,8 @@
 // Setting one code of a text.
 ghost use Rattle.std.specs.Prelude.{◌≡◌, pos, ◌+ℤ◌, int_lt};
 ghost use Rattle.run.specs.Inks.{Ink, beam_at};
-ghost use Rattle.run.specs.Texts.{is_printed, set_letter, control, break_line, set_code};
-ghost use Rattle.pen.specs.Views.{drawn, lit};
+ghost use Rattle.run.specs.Texts.{is_printed, next_line, set_letter, control, break_line, set_code};
+ghost use Rattle.pen.specs.Views.{drawn, landing, lit};
 
 use crate::field::shifted;
 use crate::marks::put_mark;
@@ -11,6 +11,14 @@ use mark::Mark;
 use run::types::Fault;
 use sheet::Sheet;
 use statement::layout::Manner;
+
+const LEFT_MARGIN: i16 = -16384;
+
+const RIGHT_MARGIN: i32 = 16384;
+
+const LETTER_WIDTH: i16 = 450;
+
+const LINE_HEIGHT: i16 = 600;
 
 // Sets a letter at the beam, and takes the beam one place to the right.
 fn set_letter<S: Sheet>(
@@ -22,7 +30,7 @@ fn set_letter<S: Sheet>(
     ensures after { (i : Ink) → drawn result (lit i beam.new intensity (S.meaning sheet.new)) ≡ set_letter code (lit i beam.old intensity (S.meaning sheet.old)) }
     ensures tied { S.tied sheet.new ≡ S.tied sheet.old }
 {
-    let next = shifted(*beam, 450, 0)?;
+    let next = shifted(*beam, LETTER_WIDTH, 0)?;
     if code != b' ' {
         put_mark(intensity, sheet, Mark::Letter { at: *beam, code })?;
     }
@@ -35,9 +43,9 @@ fn obey_control(beam: &mut Point, code: u8) -> Result<(), Fault>
     ensures { (i : Ink) → drawn result (beam_at beam.new i) ≡ control code (beam_at beam.old i) }
 {
     match code {
-        13 => beam.x = -16384,
-        10 => *beam = shifted(*beam, 0, -600)?,
-        8 => *beam = shifted(*beam, -450, 0)?,
+        13 => beam.x = LEFT_MARGIN,
+        10 => *beam = shifted(*beam, 0, -LINE_HEIGHT)?,
+        8 => *beam = shifted(*beam, -LETTER_WIDTH, 0)?,
         _ => {}
     }
     Ok(())
@@ -47,7 +55,7 @@ fn obey_control(beam: &mut Point, code: u8) -> Result<(), Fault>
 fn passes_margin(p: Point) -> bool
     ensures { result ≡ int_lt (pos 16384) (p.x +ℤ pos 450) }
 {
-    i32::from(p.x) + 450 > 16384
+    i32::from(p.x) + i32::from(LETTER_WIDTH) > RIGHT_MARGIN
 }
 
 // Whether the font has a code.
@@ -57,16 +65,26 @@ fn is_printed(code: u8) -> bool
     (32..=126).contains(&code)
 }
 
+// The start of the next line, if it lies on the field.
+fn next_line(p: Point) -> Result<Point, Fault>
+    ensures { result ≡ landing (next_line p) }
+{
+    shifted(
+        Point {
+            x: LEFT_MARGIN,
+            ..p
+        },
+        0,
+        -LINE_HEIGHT,
+    )
+}
+
 // Starts a new line where the next letter would pass the right margin, if lines are broken.
 fn break_line(beam: &mut Point, manner: Manner) -> Result<(), Fault>
     ensures { (i : Ink) → drawn result (beam_at beam.new i) ≡ break_line manner (beam_at beam.old i) }
 {
     if manner == Manner::Wrapping && passes_margin(*beam) {
-        let start = Point {
-            x: -16384,
-            y: beam.y,
-        };
-        *beam = shifted(start, 0, -600)?;
+        *beam = next_line(*beam)?;
     }
     Ok(())
 }

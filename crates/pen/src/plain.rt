@@ -27,7 +27,7 @@ impl Pen {
             Statement::Dota(x, y) => self.travel(sheet, Trace::Dot, Aim::Absolute, x, y),
             Statement::Dotr(x, y) => self.travel(sheet, Trace::Dot, Aim::Relative, x, y),
             Statement::Text(text) => self.set_text(sheet, Manner::Onward, text.bytes),
-            Statement::Textr(text) => self.set_text(sheet, Manner::Restoring, text.bytes),
+            Statement::Textr(text) => self.set_and_return(sheet, text.bytes),
             Statement::Texto(text) => self.set_text(sheet, Manner::Wrapping, text.bytes),
             Statement::Linmod(value) => {
                 self.assign(Setting::LineMode, value);

@@ -1,7 +1,7 @@
 // Setting a text, code by code.
 ghost use Rattle.std.specs.Prelude.{◌≡◌};
 ghost use Rattle.run.specs.Inks.{Ink};
-ghost use Rattle.run.specs.Texts.{set_codes, set_text, restored};
+ghost use Rattle.run.specs.Texts.{set_codes, restored};
 ghost use Rattle.statement.specs.declared.layout.Manner.TheVariants.{Restoring};
 ghost use Rattle.pen.specs.Views.{ink_of, drawn, drawn_of, lit};
 
@@ -45,22 +45,6 @@ impl Drop for Restore<'_> {
     }
 }
 
-// Sets a text and takes the beam back, whether the text was finished or refused.
-fn set_and_return<S: Sheet>(
-    beam: &mut Point,
-    intensity: u8,
-    sheet: &mut S,
-    codes: &[u8],
-) -> Result<(), Fault>
-    ensures after { (i : Ink) → drawn result (lit i beam.new intensity (S.meaning sheet.new)) ≡ restored beam.old (set_codes Restoring codes.now (lit i beam.old intensity (S.meaning sheet.old))) }
-    ensures tied { S.tied sheet.new ≡ S.tied sheet.old }
-{
-    let saved = *beam;
-    let guard = Restore { beam, saved };
-    set_codes(guard.beam, intensity, sheet, Manner::Restoring, codes)?;
-    Ok(())
-}
-
 impl Pen {
     // Sets a text.
     pub(crate) fn set_text<S: Sheet>(
@@ -69,13 +53,26 @@ impl Pen {
         manner: Manner,
         codes: &[u8],
     ) -> Result<(), Fault>
-        ensures after { drawn_of result self.new (S.meaning sheet.new) ≡ set_text manner codes.now (ink_of self.old (S.meaning sheet.old)) }
+        ensures after { drawn_of result self.new (S.meaning sheet.new) ≡ set_codes manner codes.now (ink_of self.old (S.meaning sheet.old)) }
         ensures tied { S.tied sheet.new ≡ S.tied sheet.old }
     {
-        let intensity = self.intensity;
-        match manner {
-            Manner::Restoring => set_and_return(&mut self.beam, intensity, sheet, codes),
-            _ => set_codes(&mut self.beam, intensity, sheet, manner, codes),
-        }
+        set_codes(&mut self.beam, self.intensity, sheet, manner, codes)
+    }
+
+    // Sets a text and takes the beam back, whether the text was finished or refused.
+    pub(crate) fn set_and_return<S: Sheet>(
+        &mut self,
+        sheet: &mut S,
+        codes: &[u8],
+    ) -> Result<(), Fault>
+        ensures after { drawn_of result self.new (S.meaning sheet.new) ≡ restored self.old.beam (set_codes Restoring codes.now (ink_of self.old (S.meaning sheet.old))) }
+        ensures tied { S.tied sheet.new ≡ S.tied sheet.old }
+    {
+        let saved = self.beam;
+        let guard = Restore {
+            beam: &mut self.beam,
+            saved,
+        };
+        set_codes(guard.beam, self.intensity, sheet, Manner::Restoring, codes)
     }
 }

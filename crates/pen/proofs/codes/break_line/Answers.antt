@@ -1,5 +1,4 @@
-use Rattle.std.proofs.Common.{sym, ◌∙◌, w16, SFits, rules}
-use Rattle.std.proofs.lemmas.Int.{to_z-of_z}
+use Rattle.std.proofs.Common.{sym, ◌∙◌}
 use Rattle.std.proofs.lemmas.Result.{err_from_is_err_and}
 use Rattle.statement.specs.declared.layout.Trace.TheVariants.{Blank}
 use Rattle.run.specs.Inks.{beam_at}
@@ -12,18 +11,14 @@ use Rattle.pen.proofs.codes.break_line.Goals as goal
 pub returns-in_ok-beam : goal.returns-in_ok-beam
 returns-in_ok-beam c i =
     let p = c.args.beam.now in
-    let f : SFits w16 p.y = search rules in
-    let e = simp to_z-of_z at c.in_ok-beam.ensures in
-    lands (next_line p) c.in_ok-beam.field-0 (beam_at p i) e
+    lands (next_line p) c.in_ok-beam.field-0 (beam_at p i) c.in_ok-beam.ensures
     ∙ breaks c.args.manner (beam_at p i) (sym c.eq.ensures ∙ c.if-eq.true) (sym c.passes_margin.ensures ∙ c.if-passes_margin.true)
 
 pub returns-in_err-beam : goal.returns-in_err-beam
 returns-in_err-beam c i =
     let p = c.args.beam.now in
-    let f : SFits w16 p.y = search rules in
-    let e = simp to_z-of_z at c.in_err-beam.ensures in
     let r = err_from_is_err_and c.from_residual.result c.from_residual.ensures.1 in
-    rw (r.1, r.2) (strays (next_line p) Blank _ (beam_at p i) e
+    rw (r.1, r.2) (strays (next_line p) Blank _ (beam_at p i) c.in_err-beam.ensures
     ∙ breaks c.args.manner (beam_at p i) (sym c.eq.ensures ∙ c.if-eq.true) (sym c.passes_margin.ensures ∙ c.if-passes_margin.true))
 
 pub returns-else-eq : goal.returns-else-eq
