@@ -20,6 +20,8 @@ const LETTER_WIDTH: i16 = 450;
 
 const LINE_HEIGHT: i16 = 600;
 
+// Beam, intensity and sheet are no struct: it would hold two borrows, and each method would promise that both stay.
+
 // Sets a letter at the beam, and takes the beam one place to the right.
 fn set_letter<S: Sheet>(
     beam: &mut Point,

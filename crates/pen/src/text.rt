@@ -29,7 +29,7 @@ fn set_codes<S: Sheet>(
     Ok(())
 }
 
-// A guard: at its end the beam is back where it was.
+// A guard: at its end the beam is back where it was. That TEXTR borrows the beam by a guard is a rule of the project.
 struct Restore<'a> {
     beam: &'a mut Point,
     saved: Point,
@@ -40,8 +40,8 @@ impl Drop for Restore<'_> {
     fn drop(self)
         ensures { self.exit.0.now ≡ self.entry.saved }
     {
-        *self.beam = self.saved;
-        let Restore { beam: _, saved: _ } = self;
+        let Restore { beam, saved } = self;
+        *beam = saved;
     }
 }
 
