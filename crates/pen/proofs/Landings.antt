@@ -1,34 +1,23 @@
 -- The beam goes to a point that lies on the field, and to no other.
-use Rattle.std.proofs.Common.{◌≡◌, ℕ, Bool, true, false, cond, Ok, Err, Result, refl, ap, arith}
+use Rattle.std.proofs.Common.{◌≡◌, ℕ, Bool, true, false, cond, Ok, Err, ap, arith}
 use Rattle.geometry.specs.declared.field.Point.{Point}
 use Rattle.statement.specs.declared.layout.Trace.{Trace}
 use Rattle.run.specs.declared.types.Fault.{Fault}
 use Rattle.run.specs.declared.types.Fault.TheVariants as fault
-use Rattle.run.specs.Inks.{Ink, Drawn, good, stopped, and_then, beam_at, on_field, leave, go, go_to}
+use Rattle.run.specs.Inks.{Ink, Drawn, good, stopped, and_then, beam_at, on_field, leave, go}
 use Rattle.pen.specs.Views.{landing}
 
 module _ (p : Point) where
-  abbrev by_field : Bool → Result Point Fault
-  by_field b = cond b (Ok p) (Err fault.OffField)
+  same_by : (b : Bool) (end : Point) → Ok end ≡ cond b (Ok p) (Err fault.OffField) → end ≡ p
+  same_by true end h = cc
+  same_by false end h = absurd (let z : ◌≡◌ {A = ℕ} 0 1 = cc in omega arith)
 
-  lands_by : {A : Type 0} (b : Bool) (end : Point) (f : Point → A) (x : A) → Ok end ≡ by_field b → f end ≡ cond b (f p) x
-  lands_by true end f x h = let q : end ≡ p = cc in ap f q
-  lands_by false end f x h = absurd (let z : ◌≡◌ {A = ℕ} 0 1 = cc in omega arith)
-
-  strays_by : (b : Bool) (e : Fault) (d : Drawn) (i : Ink) → Err e ≡ by_field b → stopped e i ≡ cond b d (stopped fault.OffField i)
+  strays_by : (b : Bool) (e : Fault) (d : Drawn) (i : Ink) → Err e ≡ cond b (Ok p) (Err fault.OffField) → stopped e i ≡ cond b d (stopped fault.OffField i)
   strays_by true e d i h = absurd (let z : ◌≡◌ {A = ℕ} 0 1 = cc in omega arith)
   strays_by false e d i h = let q : e ≡ fault.OffField = cc in ap (λ z. stopped z i) q
 
-  -- no point that lies off the field is where the beam lands
-  pub lands : (end : Point) (i : Ink) → Ok end ≡ landing p → good (beam_at end i) ≡ go_to p i
-  lands end i h = lands_by (on_field p) end (λ z. good (beam_at z i)) (stopped fault.OffField i) h
+  pub goes : (t : Trace) (end : Point) (i : Ink) → Ok end ≡ landing p → go t end i ≡ go t p i
+  goes t end i h = ap (λ z. go t z i) (same_by (on_field p) end h)
 
   pub strays : (t : Trace) (e : Fault) (i : Ink) → Err e ≡ landing p → stopped e i ≡ go t p i
   strays t e i h = strays_by (on_field p) e (and_then (leave t p i) (λ j. good (beam_at p j))) i h
-
-  same_by : (b : Bool) (end : Point) → on_field p ≡ b → Ok end ≡ by_field b → end ≡ p
-  same_by true end e h = cc
-  same_by false end e h = absurd (let z : ◌≡◌ {A = ℕ} 0 1 = cc in omega arith)
-
-  pub goes : (t : Trace) (end : Point) (i : Ink) → Ok end ≡ landing p → go t end i ≡ go t p i
-  goes t end i h = ap (λ z. go t z i) (same_by (on_field p) end refl h)

@@ -1,5 +1,5 @@
 -- A text, code by code.
-use Rattle.std.proofs.Common.{◌≡◌, ℕ, ◌+◌, ◌<◌, ◌≤◌, Bool, true, false, cond, List, length, get_or, drop, pos, ◌+ℤ◌, sym, refl, ap, ◌∙◌, add-one, arith, drop-cons}
+use Rattle.std.proofs.Common.{◌≡◌, ℕ, ◌+◌, ◌<◌, ◌≤◌, ◌&&◌, true, false, cond, List, length, get_or, drop, pos, ◌+ℤ◌, sym, refl, ap, ◌∙◌, add-one, drop-cons}
 use lib.Signed.{lt_z}
 use denote.Enum.Bare.{sameb}
 use Rattle.statement.specs.contracts.layout.Manner.{the_type}
@@ -10,24 +10,11 @@ use Rattle.run.specs.declared.types.Fault.{Fault}
 use Rattle.run.specs.Inks.{Ink, Drawn, good, stopped, and_then, go_to}
 use Rattle.run.specs.Texts.{is_printed, next_line, set_letter, control, break_line, set_code, set_codes}
 
--- whether lines are broken
-abbrev pub is_wrapping : Manner → Bool
-is_wrapping m = sameb the_type m Wrapping
-
-pub breaks : (m : Manner) (i : Ink) → is_wrapping m ≡ true → lt_z (pos 16384) (i.beam.x +ℤ pos 450) ≡ true → go_to (next_line i.beam) i ≡ break_line m i
-breaks Onward i is t = absurd (let z : ◌≡◌ {A = ℕ} 0 1 = cc in omega arith)
-breaks Restoring i is t = absurd (let z : ◌≡◌ {A = ℕ} 0 1 = cc in omega arith)
-breaks Wrapping i is t = sym (ap (λ z. cond z (go_to (next_line i.beam) i) (good i)) t)
-
-pub fits : (m : Manner) (i : Ink) → is_wrapping m ≡ true → lt_z (pos 16384) (i.beam.x +ℤ pos 450) ≡ false → good i ≡ break_line m i
-fits Onward i is t = refl
-fits Restoring i is t = refl
-fits Wrapping i is t = sym (ap (λ z. cond z (go_to (next_line i.beam) i) (good i)) t)
-
-pub keeps_line : (m : Manner) (i : Ink) → is_wrapping m ≡ false → good i ≡ break_line m i
-keeps_line Onward i is = refl
-keeps_line Restoring i is = refl
-keeps_line Wrapping i is = absurd (let z : ◌≡◌ {A = ℕ} 0 1 = cc in omega arith)
+-- a line is broken where lines are and the next letter would pass the margin
+pub breaking : (m : Manner) (i : Ink) → break_line m i ≡ cond (sameb the_type m Wrapping && lt_z (pos 16384) (i.beam.x +ℤ pos 450)) (go_to (next_line i.beam) i) (good i)
+breaking Onward i = refl
+breaking Restoring i = refl
+breaking Wrapping i = refl
 
 module _ (m : Manner) (b : ℕ) (i : Ink) where
   pub controls : is_printed b ≡ false → control b i ≡ set_code m b i

@@ -82,6 +82,7 @@ fn next_line(p: Point) -> Result<Point, Fault>
 }
 
 // Starts a new line where the next letter would pass the right margin, if lines are broken.
+#[tactic(auto, using(crate::proofs::Letters::breaking))]
 fn break_line(beam: &mut Point, manner: Manner) -> Result<(), Fault>
     ensures { (i : Ink) → drawn result (beam_at beam.new i) ≡ break_line manner (beam_at beam.old i) }
 {

@@ -4,7 +4,7 @@ use geometry::Point;
 use mark::LineMode;
 
 // The beam, the modes and the points that were marked, the last at the end.
-#[derive(Drop)]
+#[derive(Debug, PartialEq, Eq, Drop)]
 pub struct Pen {
     pub beam: Point,
     pub mode: LineMode,

@@ -1,7 +1,5 @@
 use Rattle.std.proofs.Common.{sym, ◌∙◌}
 use Rattle.std.proofs.lemmas.Result.{err_from_is_err_and}
-use Rattle.run.specs.Inks.{Ink}
-use Rattle.pen.specs.Views.{lit}
 use Rattle.pen.proofs.Letters.{goes_on, breaks_off, ends}
 use Rattle.pen.proofs.text.set_codes.Goals as goal
 
