@@ -1,14 +1,7 @@
 use Rattle.std.proofs.Common.{◌∙◌, arith}
 use Rattle.statement.specs.Views.{said_by}
-use Rattle.walking.proofs.Steps.{told_within, told_on, refused_step, open_step, long_step}
+use Rattle.walking.proofs.Steps.{told_on, refused_step, open_step, long_step}
 use Rattle.walking.proofs.walker.Walker.next.Goals as goal
-
-pub invariant_of-self : goal.invariant_of-self
-invariant_of-self c =
-    let w = c.args.self.now in
-    let g = c.in-Ok.ensures.spelt in
-    let inside = told_within w.standing w.place w.bytes.now c.min-limit.result (omega arith) (omega arith) (omega arith) (said_by c.in-Ok.statement) g.0 g.1 g.2 in
-    record { within = omega arith; few = omega arith }
 
 pub returns-in-Ok-clause-step : goal.returns-in-Ok-clause-step
 returns-in-Ok-clause-step c =
