@@ -22,10 +22,7 @@ pub fn tail_extent(tail: Tail<'_>) -> usize
         return 0;
     };
     let point = if at.is_some() { 5 } else { 1 };
-    match as_name {
-        None => point,
-        Some(name) => name.bytes.len().saturating_add(1 + point),
-    }
+    as_name.map_or(point, |name| name.bytes.len().saturating_add(1 + point))
 }
 
 // The length of a statement's spelling, or the greatest number where it is greater.
