@@ -28,6 +28,7 @@ fn call_of<'a>(name: Part<'a>, tail: Tail<'a>) -> Result<Statement<'a>, Stop>
 }
 
 // The statement of a name and a tail, from what follows the code.
+#[tactic(auto, using(crate::proofs::Calls::called))]
 pub(crate) fn read_call(piece: Piece<'_>) -> Result<Statement<'_>, Stop>
     ensures value { shape_of result ≡ onto (string 8 (bytes_in piece.entry)) calling }
     ensures parts { ReadingLies result piece.entry.whole.now }
