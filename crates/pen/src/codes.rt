@@ -40,14 +40,14 @@ fn set_letter<S: Sheet>(
     Ok(())
 }
 
-// Does what a code that is no letter says: 13 carriage return, 10 line feed, 8 backspace.
+// Does what a code that is no letter says: a carriage return, a line feed, a backspace, or nothing.
 fn obey_control(beam: &mut Point, code: u8) -> Result<(), Fault>
     ensures { (i : Ink) → drawn result (beam_at beam.new i) ≡ control code (beam_at beam.old i) }
 {
     match code {
-        13 => beam.x = LEFT_MARGIN,
-        10 => *beam = shifted(*beam, 0, -LINE_HEIGHT)?,
-        8 => *beam = shifted(*beam, -LETTER_WIDTH, 0)?,
+        b'\r' => beam.x = LEFT_MARGIN,
+        b'\n' => *beam = shifted(*beam, 0, -LINE_HEIGHT)?,
+        b'\x08' => *beam = shifted(*beam, -LETTER_WIDTH, 0)?,
         _ => {}
     }
     Ok(())
@@ -71,14 +71,11 @@ fn is_printed(code: u8) -> bool
 fn next_line(p: Point) -> Result<Point, Fault>
     ensures { result ≡ landing (next_line p) }
 {
-    shifted(
-        Point {
-            x: LEFT_MARGIN,
-            ..p
-        },
-        0,
-        -LINE_HEIGHT,
-    )
+    let start = Point {
+        x: LEFT_MARGIN,
+        ..p
+    };
+    shifted(start, 0, -LINE_HEIGHT)
 }
 
 // Starts a new line where the next letter would pass the right margin, if lines are broken.
