@@ -29,23 +29,13 @@ impl Fault {
         ensures { result ≡ layer_of self }
     {
         match self {
-            Fault::Read(f) => read_layer(f),
-            Fault::Unfinished => Layer::Bytes,
-            Fault::NoRoom => Layer::Statement,
+            Fault::Read(
+                Unread::UnknownCode | Unread::ShortCount | Unread::TooLong | Unread::StreamTooLong,
+            )
+            | Fault::Unfinished => Layer::Bytes,
+            Fault::Read(_) | Fault::NoRoom => Layer::Statement,
             Fault::SheetFull => Layer::Sheet,
             _ => Layer::Performance,
         }
-    }
-}
-
-// The layer of a fault of the bytes or the statement itself.
-fn read_layer(f: Unread) -> Layer
-    ensures { result ≡ layer_of (Fault.Read f) }
-{
-    match f {
-        Unread::UnknownCode | Unread::ShortCount | Unread::TooLong | Unread::StreamTooLong => {
-            Layer::Bytes
-        }
-        _ => Layer::Statement,
     }
 }
