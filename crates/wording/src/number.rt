@@ -2,7 +2,7 @@
 ghost use Rattle.std.specs.Prelude.{◌≡◌};
 ghost use Rattle.std.specs.Char.{is_ascii_digit};
 ghost use Rattle.std.specs.List.{list_all};
-ghost use Rattle.wording.specs.Numerals.{is_short, number_in, value_in, coordinate_in, negated, unsigned};
+ghost use Rattle.wording.specs.Numerals.{is_short, number_in, value_in, coordinate_in, negated};
 
 use crate::split::after;
 
@@ -54,19 +54,12 @@ fn below_zero(number: u32) -> Option<i16>
     }
 }
 
-// A number from 0 on, if it fits.
-fn from_zero(number: u32) -> Option<i16>
-    ensures { result ≡ unsigned number }
-{
-    i16::try_from(number).ok()
-}
-
 // The coordinate that a text writes, if it is one.
 pub(crate) fn coordinate_in(text: &[u8]) -> Option<i16>
     ensures { result ≡ coordinate_in text.now }
 {
     match after(b"-", text) {
         Some(digits) => below_zero(number_in(digits)?),
-        None => from_zero(number_in(text)?),
+        None => i16::try_from(number_in(text)?).ok(),
     }
 }

@@ -11,6 +11,7 @@ use statement::types::Statement;
 
 // The statement whose words a line is, if it is that of one; the scratch takes what stands between quotes.
 // The scratch is lent, since a heap could run out.
+#[tactic(auto, unfolding(crate::specs::Words::worded))]
 pub fn read_words<'a>(line: &'a [u8], scratch: &'a mut [u8]) -> Option<Statement<'a>>
     requires { length line.now ≤ length scratch.old }
     ensures { option_map said_by result ≡ worded line.now }
