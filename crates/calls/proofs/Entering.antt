@@ -7,7 +7,7 @@ use Rattle.statement.specs.declared.types.Part.{Part}
 use Rattle.statement.specs.declared.types.Tail.{Tail}
 use Rattle.statement.specs.declared.types.Statement.{Statement}
 use Rattle.statement.specs.declared.types.Statement.TheVariants as stmt
-use Rattle.statement.specs.Statements.{CallTail, Plain, Act, plain, call, Said, erase, endpic, subhed, subend, act}
+use Rattle.statement.specs.Statements.{CallTail, Act, plain, call, Said, erase, endpic, subhed, subend, act}
 use Rattle.statement.specs.Views.{said_by}
 use Rattle.run.specs.declared.types.Fault.{Fault}
 use Rattle.run.specs.declared.types.Fault.TheVariants as fault
@@ -33,9 +33,6 @@ found_name [] n x p = absurd (let z : ◌≡◌ {A = ℕ} 0 1 = cc in omega arit
 found_name (e ∷ es) n x p =
     let k : IsBytesEq same_bytes = search rules in
     name_by (same_bytes e.name n) e x (find es n) n (compares_Decides same_bytes k e.name n).0 (found_name es n x) p
-
-pub no_hindrance : (e : Entry) (n : List ℕ) (ns : List (List ℕ)) → is_simple e.header ≡ true → is_among n ns ≡ false → leb 8 (length ns) ≡ false → None ≡ hindrance e n ns
-no_hindrance e n ns s a d = sym (simp (s, a, d))
 
 -- what bars a statement refuses it
 module _ (d : ℕ) (T : List Entry) (ns : List (List ℕ)) (o : ℕ) (i : Ink) (k : ℕ) (f : Fault) where

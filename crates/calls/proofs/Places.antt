@@ -1,8 +1,8 @@
 -- Looking a name up, among the open names and in the table.
-use Rattle.std.proofs.Common.{◌≡◌, ℕ, suc, ◌+◌, ◌<◌, ◌≤◌, cond, ◌||◌, List, [], ◌∷◌, map, length, Some, None, vec_len, vec_capacity, Bor, Vec, refl, ap, ◌∙◌, add-one, ltb}
+use Rattle.std.proofs.Common.{◌≡◌, ℕ, ◌+◌, ◌≤◌, cond, ◌||◌, List, [], ◌∷◌, map, length, Some, None, vec_len, vec_capacity, Bor, Vec, refl, ap, ◌∙◌, add-one, ltb}
 use Rattle.std.specs.List.{list_any, position_or_len, position_from}
 use Rattle.std.proofs.lemmas.Iterator.Adapters.{position_from-zero}
-use Rattle.run.specs.Performing.{Entry, same_bytes, is_among}
+use Rattle.run.specs.Performing.{same_bytes, is_among}
 use native.Mathlib.Bridge.{le_prop}
 use Rattle.std.specs.declared.alloc.Global.{Global}
 use Rattle.calls.specs.declared.types.Definition.{Definition}

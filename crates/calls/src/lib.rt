@@ -2,6 +2,7 @@
 #![tactic(auto)]
 
 mod definition;
+mod limits;
 mod nesting;
 mod perform;
 mod steps;

@@ -3,12 +3,13 @@ ghost use Rattle.std.specs.Prelude.{◌≡◌, ◌<◌, [], ◌∷◌, ◌++◌,
 ghost use Rattle.run.specs.Performing.{is_among};
 ghost use Rattle.calls.specs.Tables.{open_of};
 
+use crate::limits::MOST_OPEN_CALLS;
 use arrayvec::ArrayVec;
 
 // The names of the open calls, the outermost first: each is its entry's own.
 #[derive(Drop)]
 pub(crate) struct OpenNames<'t> {
-    names: ArrayVec<&'t [u8], 8>,
+    names: ArrayVec<&'t [u8], MOST_OPEN_CALLS>,
 }
 
 impl<'t> OpenNames<'t> {

@@ -10,11 +10,12 @@ use crate::nesting::OpenNames;
 use crate::steps::{admit, arrive, enter};
 use crate::types::{Failure, Table, Work};
 use parsing::read::read;
-use run::types::{Fault, Spot};
+use run::types::Spot;
 use sheet::Sheet;
 use statement::types::{Home, Standing, Statement, Stop};
 
 // Performs a statement at an offset of the innermost body, where these calls are open.
+// The table, the calls, the work and the sheet stay parameters: what a struct borrows mutably, each clause would name by ghost names.
 #[cycle(perform_perform_body)]
 fn perform<'t, S: Sheet>(
     table: &'t Table,
@@ -61,6 +62,7 @@ fn perform_body<'t, S: Sheet>(
     ensures tied { S.tied sheet.new ≡ S.tied sheet.old }
 {
     let mut start = 0;
+    // Kept an index: bytes are read one by one, and a refusal tells the offset where its statement began.
     for end in 0..body.len() {
         match read(Standing::Definition(Home::Outside), &body[start..end + 1]) {
             Err(Stop::Wanting) => {}
@@ -69,7 +71,7 @@ fn perform_body<'t, S: Sheet>(
                     calls: calls.depth(),
                     offset: start,
                 };
-                let fault = Fault::Read(unread);
+                let fault = unread.into();
                 return Err(Failure { fault, spot });
             }
             Ok(statement) => {

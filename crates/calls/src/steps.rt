@@ -8,6 +8,7 @@ ghost use Rattle.pen.specs.Views.{ink_of};
 ghost use Rattle.calls.specs.Outcomes.{is_act, bar, hindrance};
 ghost use Rattle.calls.specs.Tables.{entry_of, open_of};
 
+use crate::limits::MOST_STATEMENTS;
 use crate::nesting::OpenNames;
 use crate::types::Definition;
 use geometry::Point;
@@ -32,7 +33,7 @@ pub(crate) fn admit(statement: &Statement<'_>, count: usize) -> Result<(), Fault
     if !is_act(statement) {
         return Err(Fault::Read(Unread::Misplaced));
     }
-    if count >= 65536 {
+    if count >= MOST_STATEMENTS {
         return Err(Fault::TooMany);
     }
     Ok(())

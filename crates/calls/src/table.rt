@@ -8,6 +8,7 @@ ghost use Rattle.calls.specs.contracts.types.Definition.{the_row as definition_r
 ghost use Rattle.calls.specs.contracts.types.Table.{the_row};
 ghost use Rattle.calls.specs.Tables.{letters_of, entry_of, entries_of, place_from, stored_in};
 
+use crate::limits::MOST_ENTRIES;
 use crate::types::{Definition, Table};
 use std::alloc::{AllocError, Global};
 
@@ -17,7 +18,7 @@ impl Table {
         ensures { IfOk result (λ t. entries_of t ≡ []) }
     {
         Ok(Table {
-            entries: Vec::with_capacity(heap, 32)?,
+            entries: Vec::with_capacity(heap, MOST_ENTRIES)?,
         })
     }
 
@@ -33,7 +34,7 @@ impl Table {
     pub fn is_full(&self, label: &[u8]) -> bool
         ensures { result ≡ is_full (entries_of self.now) label.now }
     {
-        self.entries.len() >= 32 && self.find(label).is_none()
+        self.entries.len() >= MOST_ENTRIES && self.find(label).is_none()
     }
 
     // Gives a name its definition, in the place of an older one; nothing changes where there is no room.
@@ -50,9 +51,9 @@ impl Table {
         ensures { place ≡ place_from (entries_of self.old) 0 (letters_of definition.name) → entries_of self.new ≡ stored_in (entries_of self.old) (entry_of definition) }
     {
         match place {
-            Some(at) => *self.slot(at) = definition,
+            Some(at) => self.replace(at, definition),
             None => {
-                if self.entries.len() < 32 {
+                if self.entries.len() < MOST_ENTRIES {
                     self.entries.push_reserved(definition);
                 }
             }
@@ -65,6 +66,14 @@ impl Table {
         ensures { result.now ≡ slice_index_or self.now.entries.items at result.now }
     {
         &self.entries[at]
+    }
+
+    // Puts a definition in the place of an entry.
+    fn replace(&mut self, at: usize, definition: Definition)
+        requires { at < vec_len self.old.entries }
+        ensures { self.new.entries.items ≡ slice_set self.old.entries.items at definition }
+    {
+        *self.slot(at) = definition;
     }
 
     // One entry, to be written.

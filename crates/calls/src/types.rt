@@ -18,7 +18,8 @@ pub struct Definition {
     pub body: ArrayVec<u8, LONGEST_BODY>,
 }
 
-// The definitions that have ended, at most 32; there is memory for all of them from the start.
+// The definitions that have ended, at most 32.
+// Kept a Vec with its capacity: the memory is all there from the making, so that no feed wants any.
 #[derive(Drop)]
 pub struct Table {
     pub entries: Vec<Definition>,

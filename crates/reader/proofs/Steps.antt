@@ -1,5 +1,5 @@
 -- One byte more.
-use Rattle.std.proofs.Common.{◌≡◌, ℕ, ◌+◌, ◌-◌, ◌<◌, ◌≤◌, Bool, cond, List, [], ◌∷◌, ◌++◌, length, Result, sym, refl, ap, ◌∙◌, arith, le-leb}
+use Rattle.std.proofs.Common.{◌≡◌, ℕ, ◌+◌, ◌-◌, ◌<◌, ◌≤◌, Bool, cond, List, [], ◌∷◌, ◌++◌, length, Result, sym, refl, ap, ◌∙◌, arith}
 use borrow.Author.Tests.{lt-leb}
 use Rattle.sheet.specs.Meanings.{Meaning}
 use Rattle.statement.specs.declared.types.Standing.{Standing}
@@ -12,7 +12,7 @@ use Rattle.run.specs.Performing.{Entry}
 use Rattle.run.specs.Runs.{Turn, Config, standing_of, step_live, step, heeding, reads, one_more, code_place, too_long}
 use Rattle.reader.specs.declared.reader.Reader.{Reader}
 use Rattle.reader.specs.Stances.{stance_of}
-use Rattle.reader.specs.Views.{stance_in, drawing_of, settled_as, config_of}
+use Rattle.reader.specs.Views.{drawing_of, settled_as, config_of}
 use Rattle.reader.specs.declared.settle.Settled.{Settled}
 use Rattle.reader.specs.declared.state.State.{State}
 use Rattle.reader.proofs.Held.{few}
@@ -38,11 +38,6 @@ module _ (r : Reader) (m : Meaning) (b : ℕ) (live : r.life ≡ Live) where
 
   choosing : Bool → Config
   choosing t = cond t (too_long (config_of r m)) (reads (r.read + 1) (one_more (code_place (config_of r m)) (config_of r m).drawing r.state.work.count b))
-
-  -- the stream has its full length
-  pub past_limit : 16777216 ≤ r.read → step (config_of r m) b ≡ too_long (config_of r m)
-  unfolding choosing
-  past_limit h = alive ∙ ap choosing (le-leb 16777216 r.read h)
 
   -- by where one stands then
   heeded : Standing → Life → Turn

@@ -5,7 +5,7 @@ ghost use Rattle.reader.specs.Answers.{refused_number};
 use run::types::Refusal;
 
 // Why a call of a reader is refused.
-#[derive(Clone, Copy)]
+#[derive(Clone, Copy, Debug, PartialEq, Eq)]
 pub enum Refused {
     // the stream was refused, by this call or an earlier one
     Stream(Refusal),

@@ -55,6 +55,7 @@ impl State {
         ensures after { (h : List ℕ) → turn_of result self.new (S.meaning sheet.new) ≡ taken (stance_in self.old) (said_by statement.entry) bytes.now at (drawing_of Live h self.old (S.meaning sheet.old)) self.old.work.count }
         ensures tied { S.tied sheet.new ≡ S.tied sheet.old }
     {
+        // A form that the project fixes: a match on the standing with the statement, state changed in place.
         match (self.standing, statement) {
             (Standing::Outside, Statement::Erase) => {
                 self.work.pen.erase(sheet);

@@ -1,5 +1,4 @@
-use Rattle.std.proofs.Common.{rules, ap}
-use Rattle.run.specs.Performing.{same_bytes}
+use Rattle.std.proofs.Common.{rules}
 use Rattle.calls.proofs.types.Definition.is_named.Goals as goal
 
 pub returns : goal.returns

@@ -1,4 +1,4 @@
-use Rattle.std.proofs.Common.{◌≡◌, [], Ok, Err, refl, ap, ◌∙◌, arith, rules}
+use Rattle.std.proofs.Common.{◌≡◌, [], Ok, Err, refl, ap, ◌∙◌, arith}
 use Rattle.sheet.specs.Meanings.{Meaning}
 use Rattle.run.specs.declared.types.Life.TheVariants.{Refused}
 use Rattle.reader.specs.declared.settle.Settled.TheVariants.{More, Done}
