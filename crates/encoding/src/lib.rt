@@ -1,4 +1,4 @@
-// Statements spelt into a buffer.
+// Statements spelt, by themselves or into a buffer.
 #![tactic(auto)]
 
 mod put;

@@ -1,5 +1,5 @@
 -- What follows a code, where it reads as a statement, begins with the spelling of that statement's arguments.
-use Rattle.std.proofs.Common.{◌≡◌, ℕ, ◌≤◌, ◌&&◌, leb, List, [], ◌∷◌, ◌++◌, length, Option, refl, ap, ◌∙◌, subst, arith}
+use Rattle.std.proofs.Common.{◌≡◌, ℕ, ◌≤◌, ◌&&◌, leb, List, [], ◌∷◌, ◌++◌, length, Option, refl, ap, ◌∙◌, subst}
 use Rattle.std.proofs.lemmas.Bool.{le-leb}
 use Rattle.statement.specs.declared.layout.Trace.{Trace}
 use Rattle.statement.specs.declared.layout.Aim.{Aim}
@@ -18,10 +18,10 @@ use Rattle.spelling.proofs.Fronts.{Matches, matches_same, matches_cons, by_first
 use Rattle.spelling.proofs.Codes.{layout_code}
 
 pub more≢whole : (s : Said) → more ≡ whole s → ⊥
-more≢whole s e = let z : ◌≡◌ {A = ℕ} 0 1 = cc in omega arith
+more≢whole s e = cc
 
 pub refused≢whole : (f : Fault) (s : Said) → refused f ≡ whole s → ⊥
-refused≢whole f s e = let z : ◌≡◌ {A = ℕ} 0 1 = cc in omega arith
+refused≢whole f s e = cc
 
 -- the bytes after a code, where they read as a statement
 pub record Argued (l : Layout) (xs : List ℕ) (s : Said) : Type 0 where

@@ -56,10 +56,10 @@ by_first false x y z un e = absurd (un e)
 
 module _ {A : Type 0} (a : A) (rest : List ℕ) where
   wanting≢found : wanting ≡ found a rest → ⊥
-  wanting≢found e = let z : ◌≡◌ {A = ℕ} 0 1 = cc in omega arith
+  wanting≢found e = cc
 
   wrong≢found : (f : Fault) → wrong f ≡ found a rest → ⊥
-  wrong≢found f e = let z : ◌≡◌ {A = ℕ} 0 1 = cc in omega arith
+  wrong≢found f e = cc
 
 -- two bytes are those of their number
 pub pair_of : (a b : ℕ) → a < 256 → b < 256 → (of_z w16 (coordinate a b) / 256 ≡ a) × (of_z w16 (coordinate a b) % 256 ≡ b)

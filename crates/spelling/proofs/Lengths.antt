@@ -1,11 +1,11 @@
 -- How long lawful statements and their parts are.
-use Rattle.std.proofs.Common.{◌≡◌, ℕ, ◌+◌, ◌/◌, ◌%◌, ◌≤◌, Bool, true, false, cond, ◌&&◌, ltb, leb, List, [], ◌∷◌, ◌++◌, length, sym, subst, arith, length-append}
+use Rattle.std.proofs.Common.{ℕ, ◌+◌, ◌/◌, ◌%◌, ◌≤◌, Bool, true, false, cond, ◌&&◌, ltb, leb, List, [], ◌∷◌, ◌++◌, length, arith, length-append}
 use Rattle.std.proofs.lemmas.Bool.{leb-true}
 use Rattle.statement.specs.declared.types.Fault.TheVariants as fault
 use Rattle.statement.specs.declared.types.Header.{Header}
 use Rattle.statement.specs.Statements.{CallTail, Plain, null, travel, letters, escape, assign, mark, movemk, drawmk, plain, call, Said, erase, endpic, subhed, subend, act}
 use Rattle.statement.specs.Reading.{is_text, is_name, lawful_tail, named_tail}
-use Rattle.spelling.specs.Spelling.{spell_string, spell_tail, header_byte, spell_arguments, spell, first_of, unless, tail_fits, Lawful}
+use Rattle.spelling.specs.Spelling.{spell_string, spell_tail, header_byte, spell, first_of, unless, tail_fits, Lawful}
 use Rattle.spelling.proofs.Spelt.{neither, not_one}
 use Rattle.spelling.proofs.Tails.{tail_short}
 
@@ -16,38 +16,16 @@ string_length t = by (ltb (length t) 128)
     by true = omega arith
     by false = omega arith
 
--- a lawful heading
-pub record Heads (s : Said) (n : List ℕ) (h : Header) : Type 0 where
-  pub short : length n ≤ 8
-  pub size : length (spell_arguments s) ≡ length (spell_string n) + 2
+-- a lawful name is short
+heading_short : (n : List ℕ) (h : Header) → Lawful (subhed n h) → length n ≤ 8
+heading_short n h l = leb-true (length n) 8 (neither (leb (length n) 8) fault.TooLong (unless (is_name n) fault.WrongCharacter) l).0
 
-heads_itself : (n : List ℕ) (h : Header) → Lawful (subhed n h) → Heads (subhed n h) n h
-heads_itself n h l = record {
-  short = leb-true (length n) 8 (neither (leb (length n) 8) fault.TooLong (unless (is_name n) fault.WrongCharacter) l).0;
-  size = length-append (spell_string n) (1 ∷ header_byte h ∷ []);
-}
-
-pub heads : (s : Said) (n : List ℕ) (h : Header) → s ≡ subhed n h → Lawful s → Heads s n h
-heads s n h e l = subst (λ z. Heads z n h) (sym e) (heads_itself n h (subst Lawful e l))
-
--- a lawful call
-pub record Calls (s : Said) (n : List ℕ) (t : CallTail) : Type 0 where
-  pub short : length n ≤ 8
-  pub fits : tail_fits t ≡ true
-  pub size : length (spell_arguments s) ≡ length (spell_string n) + (1 + length (spell_tail t))
-
-calls_itself : (n : List ℕ) (t : CallTail) → Lawful (act (call n t)) → Calls (act (call n t)) n t
-calls_itself n t l =
+-- and so are the name and the tail of a lawful call
+call_short : (n : List ℕ) (t : CallTail) → Lawful (act (call n t)) → (length n ≤ 8) × (length (spell_tail t) ≤ 14)
+call_short n t l =
     let named = first_of (unless (lawful_tail t) fault.WrongCoordinate) (unless (is_name n && named_tail t) fault.WrongCharacter) in
     let p = neither (leb (length n) 8) fault.TooLong (first_of (unless (tail_fits t) fault.WrongLayout) named) l in
-    record {
-      short = leb-true (length n) 8 p.0;
-      fits = (neither (tail_fits t) fault.WrongLayout named p.1).0;
-      size = omega (arith, length-append (spell_string n) (length (spell_tail t) ∷ spell_tail t));
-    }
-
-pub calls : (s : Said) (n : List ℕ) (t : CallTail) → s ≡ act (call n t) → Lawful s → Calls s n t
-calls s n t e l = subst (λ z. Calls z n t) (sym e) (calls_itself n t (subst Lawful e l))
+    (leb-true (length n) 8 p.0, tail_short t (neither (tail_fits t) fault.WrongLayout named p.1).0)
 
 plain_short : (p : Plain) → Lawful (act (plain p)) → length (spell (act (plain p))) ≤ 516
 plain_short null l = omega arith
@@ -64,7 +42,9 @@ plain_short drawmk l = omega arith
 pub lawful_short : (s : Said) → Lawful s → length (spell s) ≤ 516
 lawful_short erase l = omega arith
 lawful_short endpic l = omega arith
-lawful_short (subhed n h) l = let p = heads_itself n h l in omega (arith, string_length n)
+lawful_short (subhed n h) l = omega (arith, string_length n, heading_short n h l, length-append (spell_string n) (1 ∷ header_byte h ∷ []))
 lawful_short subend l = omega arith
 lawful_short (act (plain p)) l = plain_short p l
-lawful_short (act (call n t)) l = let p = calls_itself n t l in omega (arith, string_length n, tail_short t p.fits)
+lawful_short (act (call n t)) l =
+    let p = call_short n t l in
+    omega (arith, string_length n, length-append (spell_string n) (length (spell_tail t) ∷ spell_tail t))

@@ -26,11 +26,11 @@ use Rattle.spelling.proofs.Begins.{begins}
 -- no fault: neither of two
 pub neither : (b : Bool) (f : Fault) (o : Option Fault) → first_of (unless b f) o ≡ None → (b ≡ true) × (o ≡ None)
 neither true f o e = (refl, e)
-neither false f o e = let z : ◌≡◌ {A = ℕ} 0 1 = cc in absurd (omega arith)
+neither false f o e = cc
 
 pub not_one : (b : Bool) (f : Fault) → unless b f ≡ None → b ≡ true
 not_one true f e = refl
-not_one false f e = let z : ◌≡◌ {A = ℕ} 0 1 = cc in absurd (omega arith)
+not_one false f e = cc
 
 -- what follows a statement's code
 abbrev layout_for : Said → Layout

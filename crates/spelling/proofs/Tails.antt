@@ -12,7 +12,7 @@ use Rattle.spelling.specs.Spelling.{spell_pair, spell_at, spell_tail, tail_fits}
 use Rattle.spelling.proofs.Fronts.{Matches, matches_same, matches_at, matches_cons, matches_onto, by_first, pair_matches}
 
 pub none≢some : {A : Type 0} (a : A) → None ≡ Some a → ⊥
-none≢some a e = let z : ◌≡◌ {A = ℕ} 0 1 = cc in omega arith
+none≢some a e = cc
 
 pub pick : {A : Type 0} (b : Bool) (x y z : A) → cond b x y ≡ z → ((b ≡ true) × (x ≡ z)) ⊎ ((b ≡ false) × (y ≡ z))
 pick true x y z e = inl (refl, e)

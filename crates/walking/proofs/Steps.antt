@@ -2,6 +2,7 @@
 use Rattle.std.proofs.Common.{◌≡◌, ℕ, ◌+◌, ◌-◌, ◌^◌, ◌<◌, ◌≤◌, min, true, cond, leb, List, [], ◌∷◌, ◌++◌, length, get_or, take, drop, None, Ok, Err, Result, sym, refl, ap, ◌∙◌, arith, length-append, w8, Fits}
 use Rattle.std.proofs.ByRecursion.{All-from_get_or}
 use Rattle.std.proofs.lemmas.List.{append_assoc, take-append-drop, length-take, length-drop, drop_all, drop-drop, drop_at}
+use Rattle.std.proofs.lemmas.List.Sums.{fold-append}
 use Rattle.std.proofs.lemmas.Bool.{le-leb}
 use Rattle.statement.specs.declared.types.Fault.{Fault}
 use Rattle.statement.specs.declared.types.Fault.TheVariants as fault
@@ -20,7 +21,7 @@ use Rattle.spelling.specs.Walking.{Told, Walk, longest_stream, place_of, stoppin
 use Rattle.spelling.proofs.Begins.{begins}
 use Rattle.spelling.proofs.Fronts.{Bytes}
 use Rattle.spelling.proofs.Spelt.{spelt}
-use Rattle.walking.proofs.Walks.{midst, between, telling, walk_append, walk_stopped, walk_more, walk_statement, walk_refused, start_midst, place_is, spelling_long}
+use Rattle.walking.proofs.Walks.{midst, between, telling, walk_stopped, walk_more, walk_statement, walk_refused, start_midst, place_is, spelling_long}
 
 pub bytes_typed : (bs : List ℕ) → ((i : ℕ) → Fits w8 (get_or bs i 0)) → Bytes bs
 bytes_typed bs h = All-from_get_or (λ b. b < 256) bs 0 (λ i lt. (h i).fits)
@@ -63,7 +64,7 @@ module _ (st : Standing) (at : ℕ) (bs : List ℕ) (limit : ℕ) (begun : at �
         let left : drop (at + length (spell s)) bs ≡ rest ++ after =
         sym (drop-drop (length (spell s)) at bs) ∙ ap (drop (length (spell s))) all ∙ drop_at (spell s) (rest ++ after) (length (spell s)) refl in
         let inside = told_within in
-        ap (walk (between st ts at)) all ∙ walk_append (between st ts at) (spell s) (rest ++ after)
+        ap (walk (between st ts at)) all ∙ fold-append walk_step (between st ts at) (spell s) (rest ++ after)
         ∙ ap (λ w. walk w (rest ++ after)) (walk_statement st ts at (spell s) s (spelt st s l may) (spelling_long s) (omega arith))
         ∙ ap (walk (between (onwards st s) (ts ++ (telling at s ∷ [])) (at + length (spell s)))) (sym left)
 
@@ -83,7 +84,7 @@ module _ (st : Standing) (at : ℕ) (bs : List ℕ) (limit : ℕ) (begun : at �
 
   -- the walk up to the limit, and on from there
   by_window : (ts : List Told) → from_place st at bs ts ≡ walk (walk (midst st ts at []) window) after
-  by_window ts = ap (λ w. walk w (drop at bs)) (start_midst st ts at) ∙ ap (walk (midst st ts at [])) split ∙ walk_append (midst st ts at []) window after
+  by_window ts = ap (λ w. walk w (drop at bs)) (start_midst st ts at) ∙ ap (walk (midst st ts at [])) split ∙ fold-append walk_step (midst st ts at []) window after
 
   -- a refusal ends the walk
   pub refused_step : (f : Fault) → refused f ≡ reading st window → Ends (end.Refused f at)

@@ -1,6 +1,7 @@
 -- Reading a stream back, statement by statement.
 use Rattle.std.proofs.Common.{◌≡◌, ℕ, ◌+◌, ◌-◌, ◌<◌, ◌≤◌, cond, List, [], ◌∷◌, ◌++◌, length, get_or, take, Some, None, sym, refl, ap, ◌∙◌, subst, arith, length-append}
 use Rattle.std.proofs.lemmas.List.{append-nil, append_assoc, take_all, take_more, length_push}
+use Rattle.std.proofs.lemmas.List.Sums.{fold-append}
 use Rattle.std.proofs.lemmas.Bool.{lt-leb}
 use Rattle.statement.specs.declared.types.Fault.{Fault}
 use Rattle.statement.specs.declared.types.Fault.TheVariants as fault
@@ -12,7 +13,7 @@ use Rattle.spelling.specs.Spelling.{spell}
 use Rattle.spelling.specs.Walking.{Told, Stopped, Walk, longest_stream, place_of, stopping, heeding, going_on, walk_step, walk}
 use Rattle.spelling.specs.Laws.{Reads, Stand, spell_all, placed, standing_after, StreamsReadBack}
 use Rattle.spelling.proofs.Settles.{stays_whole, stays_refused}
-use Rattle.spelling.proofs.Arguments.{refused≢whole}
+use Rattle.spelling.proofs.Arguments.{more≢whole, refused≢whole}
 use Rattle.spelling.proofs.Spelt.{spelt}
 
 -- in the midst of a statement that begins at a place
@@ -26,10 +27,6 @@ between st ts at = record { standing = st; held = []; told = ts; read = at; stop
 abbrev pub telling : ℕ → Said → Told
 telling at s = record { place = at; said = s }
 
-pub walk_append : (w : Walk) (xs ys : List ℕ) → walk w (xs ++ ys) ≡ walk (walk w xs) ys
-walk_append w [] ys = refl
-walk_append w (x ∷ xs) ys = walk_append (walk_step w x) xs ys
-
 -- after a refusal nothing is read
 pub walk_stopped : (w : Walk) (e : Stopped) (bs : List ℕ) → w.stop ≡ Some e → walk w bs ≡ w
 walk_stopped w e [] h = refl
@@ -38,10 +35,7 @@ walk_stopped w e (b ∷ bs) h =
     ap (λ z. walk z bs) same ∙ walk_stopped w e bs h
 
 more≢refused : (f : Fault) → more ≡ refused f → ⊥
-more≢refused f e = let z : ◌≡◌ {A = ℕ} 0 1 = cc in omega arith
-
-more≢whole : (s : Said) → more ≡ whole s → ⊥
-more≢whole s e = let z : ◌≡◌ {A = ℕ} 0 1 = cc in omega arith
+more≢refused f e = cc
 
 -- a front of bytes that want more wants more
 pub front_open : (st : Standing) (xs ys : List ℕ) → reading st (xs ++ ys) ≡ more → reading st xs ≡ more
@@ -106,7 +100,7 @@ module _ (st : Standing) (ts : List Told) (at : ℕ) where
       let front = take k bs in
       let last = get_or bs k 0 in
       let size : length front ≡ k = omega (arith, ap length split, length_push front last) in
-      ap (λ w. walk w bs) start_midst ∙ ap (walk (midst st ts at [])) split ∙ walk_append (midst st ts at []) front (last ∷ [])
+      ap (λ w. walk w bs) start_midst ∙ ap (walk (midst st ts at [])) split ∙ fold-append walk_step (midst st ts at []) front (last ∷ [])
       ∙ ap (λ w. walk w (last ∷ [])) (walk_more [] front (omega arith) (r.before k lt))
       ∙ step_whole front last s (omega arith) (ap (reading st) (sym split) ∙ r.last)
       ∙ ap (λ z. between (onwards st s) (ts ++ (telling at s ∷ [])) (at + length z)) (sym split)
@@ -155,7 +149,7 @@ walk_all (s ∷ ss) st ts at h few =
     let next = at + length (spell s) in
     let ts' = ts ++ (telling at s ∷ []) in
     let n : next + length (spell_all ss) ≡ at + length (spell s ++ spell_all ss) = omega arith in
-    walk_append (between st ts at) (spell s) (spell_all ss)
+    fold-append walk_step (between st ts at) (spell s) (spell_all ss)
     ∙ ap (λ w. walk w (spell_all ss)) (walk_statement st ts at (spell s) s (spelt st s h.0 h.1) (spelling_long s) (omega arith))
     ∙ walk_all ss (onwards st s) ts' next h.2 (omega arith)
     ∙ (λ i. between (standing_after (onwards st s) ss) (append_assoc ts (telling at s ∷ []) (placed next ss) i) (n i))
