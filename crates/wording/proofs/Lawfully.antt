@@ -13,11 +13,11 @@ use Rattle.wording.specs.Laws.{AreBytes, Is16Bits, Spaceless, AsWordable, AtWord
 
 first_none : (f g : Option Fault) → first_of f g ≡ None → (f ≡ None) × (g ≡ None)
 first_none None g e = (refl, e)
-first_none (Some f) g e = let z : ◌≡◌ {A = ℕ} 0 1 = cc in absurd (omega arith)
+first_none (Some f) g e = absurd (cc)
 
 unless_none : (b : Bool) (f : Fault) → unless b f ≡ None → b ≡ true
 unless_none true f e = refl
-unless_none false f e = let z : ◌≡◌ {A = ℕ} 0 1 = cc in absurd (omega arith)
+unless_none false f e = absurd (cc)
 
 codes_spaceless : (n : List ℕ) → are_name_codes n ≡ true → Spaceless n
 codes_spaceless [] e = tt

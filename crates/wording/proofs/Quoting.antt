@@ -31,7 +31,7 @@ hex_written c d e = go (leb 48 c && leb c 57) refl e
   where
     letter : (b : Bool) → (leb 97 c && leb c 102) ≡ b → cond b (Some (c - 87)) None ≡ Some d → (hex_digit d ≡ c) × (d < 16)
     letter true h f = let q : c - 87 ≡ d = same (c - 87) d f in (grind (arith, nat_tests), grind (arith, nat_tests))
-    letter false h f = let z : ◌≡◌ {A = ℕ} 0 1 = cc in absurd (omega arith)
+    letter false h f = absurd (cc)
 
     go : (b : Bool) → (leb 48 c && leb c 57) ≡ b → cond b (Some (c - 48)) (cond (leb 97 c && leb c 102) (Some (c - 87)) None) ≡ Some d → (hex_digit d ≡ c) × (d < 16)
     go true h f = let q : c - 48 ≡ d = same (c - 48) d f in (grind (arith, nat_tests), grind (arith, nat_tests))
@@ -39,14 +39,14 @@ hex_written c d e = go (leb 48 c && leb c 57) refl e
 
 -- a byte before what was found
 before_come : (b : ℕ) (o : Option Found) (t after : List ℕ) → before (b ∷ []) o ≡ Some (t, after) → (u : List ℕ) × (o ≡ Some (u, after)) × (b ∷ u ≡ t)
-before_come b None t after e = let z : ◌≡◌ {A = ℕ} 0 1 = cc in absurd (omega arith)
+before_come b None t after e = absurd (cc)
 before_come b (Some p) t after e =
     let q : ◌≡◌ {A = Found} (b ∷ p.0, p.1) (t, after) = same (b ∷ p.0, p.1) (t, after) e in (p.0, ap (λ z. Some (p.0, z)) (ap (λ z. z.1) q), ap (λ z. z.0) q)
 
 -- one character more, where what follows it is as it is written
 module _ (c : ℕ) (cs t after : List ℕ) (k : Spot → Option Found) (ih : (z : Spot) → (u : List ℕ) → k z ≡ Some (u, after) → held z ++ cs ≡ writing u after) where
   none : {A : Type 0} → ◌≡◌ {A = Option Found} None (Some (t, after)) → A
-  none e = let z : ◌≡◌ {A = ℕ} 0 1 = cc in absurd (omega arith)
+  none e = absurd (cc)
 
   -- a byte that stands in this form
   byte_written : (b : ℕ) (form : List ℕ) → quoted_byte b ≡ form → before (b ∷ []) (k spot.Between) ≡ Some (t, after) → form ++ cs ≡ writing t after
@@ -94,7 +94,7 @@ module _ (c : ℕ) (cs t after : List ℕ) (k : Spot → Option Found) (ih : (z 
   step_written (spot.Low h) e = low_written h (hex_in c) refl e
 
 written_at : (s : Spot) (cs t after : List ℕ) → unquoted_at s cs ≡ Some (t, after) → held s ++ cs ≡ writing t after
-written_at s [] t after e = let z : ◌≡◌ {A = ℕ} 0 1 = cc in absurd (omega arith)
+written_at s [] t after e = absurd (cc)
 written_at s (c ∷ cs) t after e = step_written c cs t after (λ z. unquoted_at z cs) (λ z u. written_at z cs u after) s e
 
 pub string_written : (cs : List ℕ) (p : List ℕ × List ℕ) → unquoted cs ≡ Some p → writing p.0 p.1 ≡ cs

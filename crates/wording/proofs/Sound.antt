@@ -1,5 +1,5 @@
 -- A line that reads as a statement is the words of that statement.
-use Rattle.std.proofs.Common.{◌≡◌, ℕ, List, [], ◌∷◌, ◌++◌, ℤ, Some, None, codes, decimal, Option, sym, refl, ap, ◌∙◌, arith}
+use Rattle.std.proofs.Common.{◌≡◌, ℕ, List, [], ◌∷◌, ◌++◌, ℤ, Some, None, codes, decimal, Option, sym, refl, ap, ◌∙◌}
 use Rattle.std.specs.List.{flat_map}
 use Rattle.std.specs.Fmt.{signed_decimal}
 use Rattle.std.proofs.lemmas.List.{append_assoc}
@@ -40,7 +40,7 @@ header_written n h e = entry_named header_text headers (refl, (refl, (refl, tt))
 
 ended_is : {A : Type 0} (a b : A) (cs : List ℕ) → ended a cs ≡ Some b → (a ≡ b) × ([] ≡ cs)
 ended_is a b [] e = (same a b e, refl)
-ended_is a b (c ∷ cs) e = let z : ◌≡◌ {A = ℕ} 0 1 = cc in absurd (omega arith)
+ended_is a b (c ∷ cs) e = absurd (cc)
 
 -- a word and what follows it
 split_written : (cs w r : List ℕ) → w ≡ word cs → r ≡ rest cs → w ++ r ≡ cs

@@ -1,5 +1,5 @@
 -- Things found in tables, and what comes of them.
-use Rattle.std.proofs.Common.{◌≡◌, ℕ, Bool, true, false, cond, List, [], ◌∷◌, ◌++◌, Some, None, Option, sym, refl, ap, ◌∙◌, arith}
+use Rattle.std.proofs.Common.{◌≡◌, ℕ, Bool, true, false, cond, List, [], ◌∷◌, ◌++◌, Some, None, Option, sym, refl, ap, ◌∙◌}
 use Rattle.std.specs.Option.{option_or}
 use Rattle.std.specs.List.{AllByRecursion}
 use Rattle.std.proofs.lemmas.Slice.Eq.{bytes_eq-Decides}
@@ -14,19 +14,19 @@ entry_append (x ∷ xs) ys n =
 
 -- what came of something came of a thing that was there
 pub come : {A B : Type 0} (o : Option A) (k : A → Option B) (b : B) → given o k ≡ Some b → (a : A) × (o ≡ Some a) × (k a ≡ Some b)
-come None k b e = let z : ◌≡◌ {A = ℕ} 0 1 = cc in absurd (omega arith)
+come None k b e = absurd (cc)
 come (Some a) k b e = (a, refl, e)
 
 pub passed : {A : Type 0} (t : Bool) (o : Option A) (a : A) → cond t o None ≡ Some a → (t ≡ true) × (o ≡ Some a)
 passed true o a e = (refl, e)
-passed false o a e = let z : ◌≡◌ {A = ℕ} 0 1 = cc in absurd (omega arith)
+passed false o a e = absurd (cc)
 
 pub same : {A : Type 0} (a b : A) → Some a ≡ Some b → a ≡ b
 same a b e = cc
 
 -- a table of names, in which each thing stands under its own
 pub entry_named : {A : Type 0} (name : A → List ℕ) (es : List (List ℕ × A)) → AllByRecursion (λ e. name e.1 ≡ e.0) es → (n : List ℕ) (a : A) → entry es n ≡ Some a → name a ≡ n
-entry_named name [] all n a e = let z : ◌≡◌ {A = ℕ} 0 1 = cc in absurd (omega arith)
+entry_named name [] all n a e = absurd (cc)
 entry_named {A} name (x ∷ es) all n a e = go (bytes_eq x.0 n) refl e (entry_named name es all.1 n a)
   where
     go : (t : Bool) → bytes_eq x.0 n ≡ t → cond t (Some x.1) (entry es n) ≡ Some a → (entry es n ≡ Some a → name a ≡ n) → name a ≡ n

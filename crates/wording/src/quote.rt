@@ -29,7 +29,7 @@ pub(crate) enum Turn {
     End,
 }
 
-// The value of a digit of base 16.
+// The value of a digit of base 16 in small letters; `to_digit` would take capitals too.
 fn hex_in(c: u8) -> Option<u8>
     ensures { result ≡ hex_in c }
 {
