@@ -4,7 +4,6 @@ use Rattle.std.proofs.lemmas.Nat.{div-add-mod', mod_below, div-mul-add}
 use Rattle.std.proofs.lemmas.Int.{ints}
 use Rattle.geometry.specs.Floors.{floor_div, Floor}
 use Rattle.geometry.specs.Lines.{steps_of, rounded, along, stepped, point_of, Ends}
-use Rattle.geometry.specs.Cases.{Cases}
 
 neg_suc : (k : ℕ) → negsuc k +ℤ pos 1 ≡ neg_ℤ (pos k)
 neg_suc k = omega (arith, ints)
@@ -107,6 +106,3 @@ ends = record {
       within_steps p q n (omega arith) ∙ (λ i. (arrives p.0 q.0 n (omega arith) i, arrives p.1 q.1 n (omega arith) i));
   between = within_steps;
 }
-
-pub cases : Cases
-cases = record { places = refl; line = refl }

@@ -14,7 +14,7 @@ impl Side {
     pub fn new(pixels: u16) -> Option<Side>
         ensures { MatchOption result ((pixels < 8) ⊎ (2048 < pixels)) (λ s. s.pixels ≡ pixels) }
     {
-        if 8 <= pixels && pixels <= 2048 {
+        if (8..=2048).contains(&pixels) {
             Some(Side { pixels })
         } else {
             None

@@ -14,6 +14,7 @@ pub fn is_full<S: Sheet>(sheet: &S) -> bool
 }
 
 // Puts one mark after another on a sheet, and says whether it took them all.
+#[tactic(auto, using(crate::proofs::Twins::side_kept))]
 pub fn draw<S: Sheet>(sheet: &mut S, marks: &[Mark]) -> bool
     ensures answer { result ≡ takes_all (S.meaning sheet.old) marks.now }
     ensures after { S.meaning sheet.new ≡ marked_all (S.meaning sheet.old) marks.now }

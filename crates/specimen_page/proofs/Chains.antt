@@ -17,9 +17,9 @@ use Rattle.std.proofs.lemmas.Iterator.Consumers.{YieldsList-from_shown}
 use Rattle.std.proofs.lemmas.Iterator.Search.{find_from_yields_List}
 
 -- the first number that was found, or the end where none was: none before it passed
-pub none_before : (r : Option ℕ) (end found : ℕ) (Yes No : ℕ → Type 0) → MatchOption r ((k : ℕ) → 0 ≤ k → k < end → No k) (λ i. (0 ≤ i) × (i < end) × Yes i × ((k : ℕ) → 0 ≤ k → k < i → No k)) → found ≡ unwrap_or r end → (k : ℕ) → k < found → No k
-none_before None end found Yes No m e k h = m k (omega arith) (omega arith)
-none_before (Some i) end found Yes No m e k h = m.3 k (omega arith) (omega arith)
+pub none_before : (r : Option ℕ) (start end found : ℕ) (Yes No : ℕ → Type 0) → start ≤ 0 → MatchOption r ((k : ℕ) → start ≤ k → k < end → No k) (λ i. (start ≤ i) × (i < end) × Yes i × ((k : ℕ) → start ≤ k → k < i → No k)) → found ≡ unwrap_or r end → (k : ℕ) → k < found → No k
+none_before None start end found Yes No z m e k h = m k (omega arith) (omega arith)
+none_before (Some i) start end found Yes No z m e k h = m.3 k (omega arith) (omega arith)
 
 -- the n numbers from a on, the last one first
 abbrev pub countdown : ℕ → ℕ → List ℕ

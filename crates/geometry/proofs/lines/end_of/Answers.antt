@@ -3,11 +3,8 @@ use Rattle.geometry.specs.Lines.{Near}
 use Rattle.geometry.proofs.Sizes.{near_pixel}
 use Rattle.geometry.proofs.lines.end_of.Goals as goal
 
-pub returns : goal.returns
-returns c =
+pub returns-clause-near : goal.returns-clause-near
+returns-clause-near c =
     let s = c.args.side in
     let p = c.args.point in
-    record {
-      value = search rules;
-      near = subst (λ (z : ℤ × ℤ). Near z) (sym c.pixel_of.ensures) (near_pixel s.pixels p.x p.y s.most (search rules) (search rules));
-    }
+    subst (λ (z : ℤ × ℤ). Near z) (sym c.pixel_of.ensures) (near_pixel s.pixels p.x p.y s.most (search rules) (search rules))

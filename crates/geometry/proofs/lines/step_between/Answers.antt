@@ -34,12 +34,6 @@ nearest-requires t =
     let s = size_steps t.args.a t.args.c t.args.k t.requires.0 t.requires.1.0 l in
     (search rules, (omega arith, subst (λ (z : ℤ). nat_abs z ≤ 400000000) (sym e) (le_trans s (lit≤ tt))))
 
-pub overflow_add-result : goal.overflow_add-result
-overflow_add-result t =
-    let u = within t.args.a 8192 t.requires.0 in
-    let v = within t.nearest.result 500000000 t.nearest.ensures.small in
-    omega (arith, ints)
-
 pub returns : goal.returns
 returns t =
     let l : t.args.k ≤ 16384 = omega arith in
