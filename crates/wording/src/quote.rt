@@ -5,7 +5,7 @@ ghost use Rattle.wording.specs.Quotes.{hex_in, low_turn, turn_at, unquoted, Hex,
 
 use listing::quote::is_plain;
 
-// Where one is between quotes.
+// Where one is between quotes; a definition by slice patterns would take four characters at a time, and be no plainer.
 #[derive(Clone, Copy)]
 pub(crate) enum Spot {
     // between two bytes
@@ -71,6 +71,7 @@ fn turn_at(spot: Spot, c: u8) -> Option<Turn>
 }
 
 // Puts the bytes up to the closing quote into the scratch; their number, and what follows the quote.
+// The scratch is lent memory, so the number stands beside it.
 pub(crate) fn unquote<'a>(text: &'a [u8], scratch: &mut [u8]) -> Option<(usize, &'a [u8])>
     requires { length text.now ≤ length scratch.old }
     ensures value { option_map (λ p. (take p.0 scratch.new, p.1.now)) result ≡ unquoted text.now }
