@@ -11,8 +11,8 @@ use Rattle.mark.specs.declared.LineMode.{LineMode}
 use Rattle.mark.specs.declared.Mark.{Mark}
 use Rattle.mark.specs.Covers.{on_sheet, same_pixel, any_below, inks_point, line_inks_at, has_dot, letter_dot, letter_inks_at, covers, reaches}
 use Rattle.sheet.specs.Meanings.{gains}
-use Rattle.raster.specs.Bits.{page_bytes, bit_at, inked_at, byte_of, with_pixel, Gained, bit_meaning}
-use Rattle.raster.proofs.Bytes.{within_row, within_page, bit_set}
+use Rattle.raster.specs.Bits.{page_bytes, bit_at, inked_at, with_pixel, Gained, bit_meaning}
+use Rattle.raster.proofs.Bytes.{within_row, bit_set}
 
 part_on : (n : ℕ) (a : ℤ) → le_z (pos 0) a ≡ true → lt_z a (pos n) ≡ true → (nat_abs a < n) × (non_neg a ≡ true)
 part_on n (pos m) h g = (ltb-true m n g, refl)
@@ -25,11 +25,6 @@ on_within n z on =
     let q = and_parts (lt_z z.0 (pos n)) (le_z (pos 0) z.1 && lt_z z.1 (pos n)) p.1 in
     let r = and_parts (le_z (pos 0) z.1) (lt_z z.1 (pos n)) q.1 in
     (part_on n z.0 p.0 q.0, part_on n z.1 r.0 r.1)
-
-pub byte_within : (n len : ℕ) (z : ℤ × ℤ) → on_sheet n z ≡ true → len ≡ page_bytes n → byte_of n z < len
-byte_within n len z on e =
-    let o = on_within n z on in
-    subst (λ (m : ℕ). byte_of n z < m) (sym e) (within_page n (nat_abs z.0) (nat_abs z.1) o.0.0 o.1.0)
 
 same_nat : (a b : ℤ) → non_neg a ≡ true → non_neg b ≡ true → int_eq a b ≡ eqb (nat_abs a) (nat_abs b)
 same_nat (pos a) (pos b) h g = grind (arith, nat_tests)
