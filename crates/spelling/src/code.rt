@@ -5,7 +5,7 @@ ghost use Rattle.spelling.specs.Spelling.{code_of};
 
 use statement::types::Statement;
 
-// The code of a statement.
+// The code of a statement: a table of the format; by layouts it would be no shorter.
 pub fn code_of(statement: &Statement<'_>) -> u8
     ensures { result ≡ code_of (said_by statement.now) }
 {

@@ -30,20 +30,12 @@ fn check_pair(aim: Aim, x: i16, y: i16) -> Result<(), Fault>
     )
 }
 
-// What a text must keep.
-fn check_text(text: &[u8]) -> Result<(), Fault>
-    ensures { result_err result ≡ first_of (unless (nat_le (length text.now) 512) Fault.TooLong) (unless (is_text text.now) Fault.WrongCharacter) }
+// What a string or a name must keep: its length, then its characters.
+fn check_string(bytes: &[u8], longest: usize, is_written_right: bool) -> Result<(), Fault>
+    ensures { result_err result ≡ first_of (unless (nat_le (length bytes.now) longest) Fault.TooLong) (unless is_written_right Fault.WrongCharacter) }
 {
-    hold(text.len() <= LONGEST_STRING, Fault::TooLong)?;
-    hold(is_text(text), Fault::WrongCharacter)
-}
-
-// What the name of a definition must keep.
-fn check_name(name: &[u8]) -> Result<(), Fault>
-    ensures { result_err result ≡ first_of (unless (nat_le (length name.now) 8) Fault.TooLong) (unless (is_name name.now) Fault.WrongCharacter) }
-{
-    hold(name.len() <= LONGEST_NAME, Fault::TooLong)?;
-    hold(is_name(name), Fault::WrongCharacter)
+    hold(bytes.len() <= longest, Fault::TooLong)?;
+    hold(is_written_right, Fault::WrongCharacter)
 }
 
 // Whether the AS name of a tail, if any, is short enough.
@@ -78,9 +70,9 @@ pub fn check(statement: &Statement<'_>) -> Result<(), Fault>
 {
     match Parts::from(*statement) {
         Parts::Pair(_, aim, x, y) => check_pair(aim, x, y),
-        Parts::Text(_, text) => check_text(text.bytes),
-        Parts::Escape(_, text) => hold(text.bytes.len() <= LONGEST_STRING, Fault::TooLong),
-        Parts::Heading(name, _) => check_name(name.bytes),
+        Parts::Text(_, text) => check_string(text.bytes, LONGEST_STRING, is_text(text.bytes)),
+        Parts::Escape(_, text) => check_string(text.bytes, LONGEST_STRING, true),
+        Parts::Heading(name, _) => check_string(name.bytes, LONGEST_NAME, is_name(name.bytes)),
         Parts::Calling(name, tail) => check_call(name, tail),
         Parts::Bare(_) | Parts::Value(..) => Ok(()),
     }

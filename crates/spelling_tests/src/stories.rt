@@ -56,18 +56,9 @@ fn the_longest_stream_ends(rt: HostRuntime) -> Result<(), Fail> {
     bytes[0] = 1;
     bytes[LONGEST_STREAM - 1] = 2;
     let mut walker = Walker::new(bytes.as_slice());
-    for _ in 0..LONGEST_STREAM {
-        if let Err(end) = walker.next() {
-            let place = LONGEST_STREAM - 1;
-            assert_eq!(rt;
-                end,
-                End::Refused {
-                    fault: Fault::StreamTooLong,
-                    place
-                }
-            );
-            return Ok(());
-        }
-    }
-    Err(Fail::new("no end"))
+    let end = (0..LONGEST_STREAM).find_map(|_| walker.next().err());
+    let place = LONGEST_STREAM - 1;
+    let fault = Fault::StreamTooLong;
+    assert_eq!(rt; end, Some(End::Refused { fault, place }));
+    Ok(())
 }
