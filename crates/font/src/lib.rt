@@ -10,6 +10,7 @@ const LAST: u8 = 126;
 
 const HEIGHT: u8 = 8;
 
+// One constant table, a number to a row: the project fixes this form.
 #[rattlefmt::skip]
 const FONT: [u8; 760] = [
     0, 0, 0, 0, 0, 0, 0, 0,        // space

@@ -19,7 +19,7 @@ fn row(side: Side, y: i32) -> i32
     side.pixels() as i32 - 1 - column(side, y)
 }
 
-// The column and the row of the pixel of a place, which may lie off the field.
+// The column and the row of the pixel of a place, which may lie off the field: two signed numbers, as the project fixes.
 pub fn pixel(side: Side, x: i32, y: i32) -> (i32, i32)
     ensures { result ≡ pixel_of side.pixels x y }
 {

@@ -1,6 +1,7 @@
 -- Some number below a bound passes a test: how a loop that looks for it goes on, and how it ends.
-use Rattle.std.proofs.Common.{◌≡◌, ℕ, zero, suc, ◌+◌, ◌<◌, ◌≤◌, Bool, true, false, refl, subst, inl, inr, add-one, arith}
-use Rattle.std.proofs.lemmas.Bool.{or_from, or_left, or_right, cases_order}
+use Rattle.std.proofs.Common.{◌≡◌, ℕ, zero, suc, ◌+◌, ◌<◌, ◌≤◌, Bool, true, false, refl, subst, add-one, arith}
+use Rattle.std.proofs.lemmas.Bool.{or_from}
+use Rattle.std.proofs.lemmas.Bool.Decides.{Decides-below_or}
 use Rattle.mark.specs.Covers.{any_below}
 
 -- none below k, and not k: none below k + 1
@@ -13,12 +14,7 @@ none_end f n k h g below = subst (λ (m : ℕ). any_below f m ≡ false) (omega 
 
 -- k is one
 pub some_at : (f : ℕ → Bool) (n k : ℕ) → k < n → f k ≡ true → any_below f n ≡ true
-some_at f zero k h t = absurd (omega arith)
-some_at f (suc n) k h t =
-    elim (cases_order k n) [
-      | inl e ↦ or_left (f n) (any_below f n) (subst (λ (m : ℕ). f m ≡ true) e t)
-      | inr o ↦ elim o [ inl l ↦ or_right (f n) (any_below f n) (some_at f n k l t) | inr g ↦ absurd (omega arith) ]
-    ]
+some_at f n k h t = (Decides-below_or f (λ k. f k ≡ true) (any_below f) (λ k. ((λ t. t), (λ t. t))) refl (λ n. refl) n).1 (k, h, t)
 
 -- no number passes
 pub none_all : (f : ℕ → Bool) (n : ℕ) → ((k : ℕ) → f k ≡ false) → any_below f n ≡ false

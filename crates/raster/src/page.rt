@@ -54,7 +54,7 @@ fn wiped<'a>(side: Side, memory: &'a mut [u8]) -> BitSheet<'a>
     }
 }
 
-// A cleared bit sheet over memory that was asked for and is fit.
+// A cleared bit sheet over memory that was asked for and is fit; the project fixes that making requires the asking.
 pub fn make<'a>(side: u16, memory: &'a mut [u8]) -> BitSheet<'a>
     requires { asked side (length memory.old) ≡ Ok tt }
     ensures side { result.side.pixels ≡ side }

@@ -23,7 +23,7 @@ pub struct StrokeTable<'a> {
     ghost few: { length strokes.now ≤ 65536 },
 }
 
-// A table with no stroke, over records that were asked for and are fit.
+// A table with no stroke, over records that were asked for and are fit; the project fixes that making requires the asking.
 pub fn make<'a>(side: u16, records: &'a mut [Stroke]) -> StrokeTable<'a>
     requires { asked side (length records.old) ≡ Ok tt }
     ensures blank { table_meaning result.side.pixels result.count result.strokes.now ≡ blank side (Some (length records.old)) }
