@@ -1,5 +1,2 @@
-mod Laying
-mod Figures
-mod Joining
 mod Rows
 mod Whole

@@ -1,24 +1,22 @@
 -- A page and the line below it.
-use Rattle.std.proofs.Common.{◌≡◌, ℕ, ◌+◌, ◌≤◌, cond, List, ◌++◌, length, drop, sym, ap, ◌∙◌, zero-add, arith, length-append}
-use lib.Seq.{sets, sets-eq}
+use Rattle.std.proofs.Common.{◌≡◌, ℕ, ◌+◌, ◌-◌, ◌≤◌, cond, List, ◌++◌, length, drop, sym, ap, ◌∙◌, arith, length-append, append_assoc}
+use borrow.Rule.Slice.PartMut.{put_mid}
+use lib.Seq.{take_at, drop_at, drop-drop}
 use Rattle.std.proofs.lemmas.Bool.{le-leb}
 use Rattle.printing.specs.Prints.{overlaid}
-use Rattle.printing.proofs.Laying.{laid_more}
 
-pub laid_over : (text buffer : List ℕ) → length text ≤ length buffer → sets buffer 0 text ≡ overlaid text buffer
-laid_over text buffer h =
-    let k : 0 + length text ≤ length buffer = omega arith in
-    sets-eq text buffer 0 k ∙ ap (λ n. text ++ drop n buffer) (zero-add (length text))
-    ∙ ap (λ b. cond b (text ++ drop (length text) buffer) buffer) (sym (le-leb (length text) (length buffer) h))
+laid_over : (text buffer : List ℕ) → length text ≤ length buffer → text ++ drop (length text) buffer ≡ overlaid text buffer
+laid_over text buffer h = ap (λ b. cond b (text ++ drop (length text) buffer) buffer) (sym (le-leb (length text) (length buffer) h))
 
-module _ (page line : List ℕ) where
-  pub page_fits : (space : ℕ) → length (page ++ line) ≤ space → length page ≤ space
-  page_fits space h = omega (arith, length-append page line)
-
-  pub line_fits : (text : List ℕ) (from space : ℕ) → from ≡ length page → text ≡ line → length (page ++ line) ≤ space → from + length text ≤ space
-  line_fits text from space n e h = omega (arith, length-append page line, ap length e)
-
-  pub whole_laid : (out mid was text : List ℕ) (from : ℕ) → from ≡ length page → text ≡ line → length (page ++ line) ≤ length was
-      → mid ≡ sets was 0 page → out ≡ sets mid from text → out ≡ overlaid (page ++ line) was
-  whole_laid out mid was text from n t h e f =
-      laid_more out mid was page line 0 from e (n ∙ sym (zero-add (length page))) (f ∙ ap (sets mid from) t) ∙ laid_over (page ++ line) was h
+-- a page put at the front of a buffer, and the line behind it
+pub whole_laid :
+    (page line top below buffer : List ℕ) (at size : ℕ) → at ≡ length page → size ≡ length line → at + size ≤ length buffer → top ≡ page → below ≡ line
+    → put_mid at (at + size - at) (top ++ drop at buffer) below ≡ overlaid (page ++ line) buffer
+whole_laid page line top below buffer at size n s h t l =
+    let long : length top ≡ at = ap length t ∙ sym n in
+    let end : at + (at + size - at) ≡ length (page ++ line) = omega (arith, length-append page line) in
+    (λ i. take_at top (drop at buffer) at long i ++ (below ++ drop (at + size - at) (drop_at top (drop at buffer) at long i)))
+    ∙ (λ i. t i ++ (l i ++ drop-drop (at + size - at) at buffer i))
+    ∙ sym (append_assoc page line (drop (at + (at + size - at)) buffer))
+    ∙ ap (λ n. (page ++ line) ++ drop n buffer) end
+    ∙ laid_over (page ++ line) buffer (omega (arith, length-append page line))

@@ -1,4 +1,3 @@
-pub mod Lines
 pub mod Pages
 pub mod Reports
 pub mod Prints

@@ -1,8 +1,8 @@
 // The text of a drawn page and of the report on it, written into a lent buffer.
 #![tactic(auto)]
 
+mod line;
 mod page;
-mod pieces;
 mod printer;
 mod refusals;
 mod worked;

@@ -1,8 +1,8 @@
 // The rows of a page.
-ghost use Rattle.std.specs.Prelude.{◌≡◌, ◌+◌, ◌≤◌, length};
-ghost use Rattle.std.proofs.lemmas.List.Edits.{sets};
+ghost use Rattle.std.specs.Prelude.{◌≡◌, ◌+◌, ◌≤◌, length, map};
+ghost use Rattle.std.specs.List.{range_with_len};
 ghost use Rattle.sheet.specs.Meanings.{Meaning};
-ghost use Rattle.printing.specs.Pages.{pixel_text, row_text, rows_text, page_text};
+ghost use Rattle.printing.specs.Pages.{pixel_text, row_text, page_text};
 
 use geometry::Side;
 use sheet::Sheet;
@@ -18,26 +18,26 @@ fn pixel_byte<S: Sheet>(sheet: &S, row: u16, column: u16) -> u8
     }
 }
 
-// Writes a row from a place on.
-fn put_row<S: Sheet>(sheet: &S, row: u16, out: &mut [u8], at: usize)
-    requires { at + ((S.meaning sheet.now).side + 1) ≤ length out.old }
-    ensures { out.new ≡ sets out.old at (row_text (S.meaning sheet.now) row) }
+// Writes the pixels of a row.
+fn put_pixels<S: Sheet>(sheet: &S, row: u16, out: &mut [u8])
+    requires whole { length out.old ≡ (S.meaning sheet.now).side }
+    requires few { length out.old ≤ 2048 }
+    ensures { out.new ≡ map (pixel_text (S.meaning sheet.now) row) (range_with_len 0 (S.meaning sheet.now).side) }
 {
-    let side = sheet.side().pixels();
-    for column in 0..side {
-        out[at + column as usize] = pixel_byte(sheet, row, column);
+    for (column, byte) in out.iter_mut().enumerate() {
+        *byte = pixel_byte(sheet, row, column as u16);
     }
-    out[at + side as usize] = b'\n';
 }
 
-// Writes the first rows of a page at the front of a buffer.
-fn put_rows<S: Sheet>(sheet: &S, count: u16, out: &mut [u8])
-    requires { length (rows_text (S.meaning sheet.now) count) ≤ length out.old }
-    ensures { out.new ≡ sets out.old 0 (rows_text (S.meaning sheet.now) count) }
+// Writes a row.
+fn put_row<S: Sheet>(sheet: &S, row: u16, out: &mut [u8])
+    requires whole { length out.old ≡ (S.meaning sheet.now).side + 1 }
+    requires few { length out.old ≤ 2049 }
+    ensures { out.new ≡ row_text (S.meaning sheet.now) row }
 {
-    let width = sheet.side().pixels() as usize + 1;
-    for row in 0..count {
-        put_row(sheet, row, out, row as usize * width);
+    if let Some((end, pixels)) = out.split_last_mut() {
+        put_pixels(sheet, row, pixels);
+        *end = b'\n';
     }
 }
 
@@ -50,10 +50,16 @@ pub(crate) fn page_room(side: Side) -> usize
     side * (side + 1)
 }
 
-// Writes a page at the front of a buffer.
+// Writes a page.
 pub(crate) fn put_page<S: Sheet>(sheet: &S, out: &mut [u8])
-    requires { length (page_text (S.meaning sheet.now)) ≤ length out.old }
-    ensures { out.new ≡ sets out.old 0 (page_text (S.meaning sheet.now)) }
+    requires { length out.old ≡ length (page_text (S.meaning sheet.now)) }
+    ensures { out.new ≡ page_text (S.meaning sheet.now) }
 {
-    put_rows(sheet, sheet.side().pixels(), out);
+    let side = sheet.side().pixels();
+    let width = side as usize + 1;
+    // rows by their places: of chunks that are lent to be written, a proof knows no byte afterwards
+    for row in 0..side {
+        let start = row as usize * width;
+        put_row(sheet, row, &mut out[start..start + width]);
+    }
 }
