@@ -1,4 +1,4 @@
-// Calls answered by a reader, one after the other.
+// Calls answered by a reader, one after the other. A reader and its sheet stay two parameters: the caller owns each, and every clause tells of both.
 ghost use Rattle.std.specs.Prelude.{◌≡◌, ◌<◌, fold};
 ghost use Rattle.std.specs.List.{AllByRecursion};
 ghost use Rattle.run.specs.Runs.{run, report_of};
@@ -11,8 +11,8 @@ use reader::reader::Reader;
 use run::types::Report;
 use sheet::Sheet;
 
-// Feeds a piece.
-fn feed_piece<S: Sheet>(reader: &mut Reader, sheet: &mut S, piece: &[u8])
+// Feeds a piece; what that answers is let go, as the reader and its report keep it.
+pub(crate) fn feed_piece<S: Sheet>(reader: &mut Reader, sheet: &mut S, piece: &[u8])
     ensures after { config_of reader.new (S.meaning sheet.new) ≡ run (config_of reader.old (S.meaning sheet.old)) piece.now }
     ensures bytes { AllByRecursion (λ b. b < 256) piece.now }
     ensures tied { S.tied sheet.new ≡ S.tied sheet.old }

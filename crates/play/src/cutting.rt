@@ -1,53 +1,35 @@
 // A stream fed in pieces.
-ghost use Rattle.std.specs.Prelude.{◌≡◌, ◌<◌, ◌≤◌, length, take};
+ghost use Rattle.std.specs.Prelude.{◌≡◌, ◌<◌};
 ghost use Rattle.run.specs.Runs.{Config, run, finish, report_of};
 ghost use Rattle.reader.specs.Views.{config_of};
 
+use crate::answer::feed_piece;
 use reader::reader::Reader;
 use run::types::Report;
 use sheet::Sheet;
-
-// Feeds the next piece, of at most so many bytes, and tells where it ends.
-fn feed_next<S: Sheet>(
-    reader: &mut Reader,
-    sheet: &mut S,
-    stream: &[u8],
-    at: usize,
-    size: usize,
-) -> usize
-    requires { at ≤ length stream.now }
-    ensures within { result ≤ length stream.now }
-    ensures goes { 0 < size → at < length stream.now → at < result }
-    ensures rest { length stream.now ≤ size → result ≡ length stream.now }
-    ensures after { (c : Config) → config_of reader.old (S.meaning sheet.old) ≡ run c (take at stream.now) → config_of reader.new (S.meaning sheet.new) ≡ run c (take result stream.now) }
-    ensures tied { S.tied sheet.new ≡ S.tied sheet.old }
-{
-    let end = at + size.min(stream.len() - at);
-    let _ = reader.feed(sheet, &stream[at..end]);
-    end
-}
 
 // Feeds a stream in pieces of these lengths, and then the rest.
 fn feed_given<S: Sheet>(reader: &mut Reader, sheet: &mut S, stream: &[u8], lengths: &[u8])
     ensures after { config_of reader.new (S.meaning sheet.new) ≡ run (config_of reader.old (S.meaning sheet.old)) stream.now }
     ensures tied { S.tied sheet.new ≡ S.tied sheet.old }
 {
-    let mut at = 0;
-    for size in lengths {
-        at = feed_next(reader, sheet, stream, at, *size as usize);
+    let mut rest = stream;
+    for length in lengths {
+        let (piece, others) = rest.split_at(rest.len().min(usize::from(*length)));
+        feed_piece(reader, sheet, piece);
+        rest = others;
     }
-    let _ = feed_next(reader, sheet, stream, at, stream.len());
+    feed_piece(reader, sheet, rest);
 }
 
 // Feeds a stream in pieces of one length.
-fn feed_even<S: Sheet>(reader: &mut Reader, sheet: &mut S, stream: &[u8], size: usize)
-    requires { 0 < size }
+fn feed_even<S: Sheet>(reader: &mut Reader, sheet: &mut S, stream: &[u8], length: usize)
+    requires { 0 < length }
     ensures after { config_of reader.new (S.meaning sheet.new) ≡ run (config_of reader.old (S.meaning sheet.old)) stream.now }
     ensures tied { S.tied sheet.new ≡ S.tied sheet.old }
 {
-    let mut at = 0;
-    while at < stream.len() {
-        at = feed_next(reader, sheet, stream, at, size);
+    for piece in stream.chunks(length) {
+        feed_piece(reader, sheet, piece);
     }
 }
 

@@ -1,13 +1,19 @@
-use Rattle.run.specs.Runs.{Config}
-use Rattle.reader.specs.Views.{config_of}
-use Rattle.play.proofs.Cuts.{run_all}
+use Rattle.std.proofs.Common.{sym, ap, ◌∙◌, rules}
+use Rattle.std.proofs.lemmas.List.{nil_from_length}
+use Rattle.std.specs.Slice.Iter.{chunks_rest}
+use Rattle.run.specs.Runs.{run}
+use Rattle.play.proofs.Cuts.{run_on}
 use Rattle.play.proofs.cutting.feed_even.Goals as goal
+
+pub loop-piece-preserved : goal.loop-piece-preserved
+loop-piece-preserved g c = (
+  search rules,
+  tt,
+  run_on _ _ _ c.in-Some.piece.now (chunks_rest c.next.new.self) c.in-Some.ensures.steps.1.0 c.feed_piece.ensures.after ∙ c.loop-piece.invariant.2,
+  c.feed_piece.ensures.tied ∙ c.loop-piece.invariant.3,
+)
 
 pub returns : goal.returns
 returns g c =
-    let first : Config = config_of c.args.reader.now (g.S.Sheet.meaning c.args.sheet.now) in
-    let last : Config = config_of c.loop-at.reader (g.S.Sheet.meaning c.loop-at.sheet) in
-    record {
-      after = run_all first last c.args.stream.now c.loop-at.at c.loop-at-test.false c.loop-at.invariant.1;
-      tied = c.loop-at.invariant.2;
-    }
+    let none = nil_from_length _ c.in-None.ensures.steps.1.0 in
+    record { after = sym (ap (run _) none) ∙ c.loop-piece.invariant.2; tied = c.loop-piece.invariant.3 }

@@ -1,14 +1,14 @@
-use Rattle.std.proofs.Common.{◌≡◌, ◌-◌, ◌≤◌, length, take}
+use Rattle.std.proofs.Common.{◌≡◌}
+use Rattle.std.specs.Slice.Iter.{chunks_rest}
 use Rattle.run.specs.Runs.{run}
 use Rattle.reader.specs.Views.{config_of}
 use Rattle.play.proofs.cutting.feed_even.Given as goal
 
-abbrev pub invariant-loop-at : goal.invariant-loop-at
-invariant-loop-at g l =
+-- the run of what is left is the run of the whole
+abbrev pub invariant-loop-piece : goal.invariant-loop-piece
+invariant-loop-piece g l =
     let m = g.S.Sheet.meaning in
-    (l.at ≤ length l.stream)
-    × (config_of l.reader (m l.sheet) ≡ run (config_of l.initial.reader (m l.initial.sheet)) (take l.at l.stream))
+    (goal.iterator-loop-piece g).can_next l.piece-iterator
+    × (goal.iterator-loop-piece g).is_finite l.piece-iterator
+    × (run (config_of l.reader (m l.sheet)) (chunks_rest l.piece-iterator) ≡ run (config_of l.initial.reader (m l.initial.sheet)) l.stream)
     × (g.S.Sheet.tied l.sheet ≡ g.S.Sheet.tied l.initial.sheet)
-
-abbrev pub decreases-loop-at : goal.decreases-loop-at
-decreases-loop-at g l = length l.stream - l.at
