@@ -1,19 +1,26 @@
 // Which jobs are drawn.
-ghost use Rattle.std.specs.Prelude.{◌≡◌};
-ghost use Rattle.job.specs.Jobs.{admission};
+ghost use Rattle.std.specs.Prelude.{◌≡◌, ◌≤◌, Ok, Err, MatchResult};
+ghost use Rattle.job.specs.Jobs.{admission, stream_of};
 
+use crate::job::Job;
 use crate::refusal::Refusal;
 
-// The side of a job, if it is fit to be drawn: its length is looked at first.
-pub(crate) fn admit(job: &[u8]) -> Result<u16, Refusal>
-    ensures { result ≡ admission job.now }
+// The bytes of the longest job.
+const LONGEST: usize = 65_538;
+
+// The job in these bytes, if it is fit to be drawn: its length is looked at first.
+pub(crate) fn admit(bytes: &[u8]) -> Result<Job<'_>, Refusal>
+    ensures { MatchResult result (λ job. (admission bytes.now ≡ Ok job.side) × (job.stream.now ≡ stream_of bytes.now)) (λ e. admission bytes.now ≡ Err e) }
 {
-    if job.len() < 2 || job.len() > 65538 {
+    let [high, low, stream @ ..] = bytes else {
+        return Err(Refusal::Length);
+    };
+    if bytes.len() > LONGEST {
         return Err(Refusal::Length);
     }
-    let side = job[0] as u16 * 256 + job[1] as u16;
-    if side < 8 || side > 512 {
+    let side = u16::from_be_bytes([*high, *low]);
+    if !(8..=512).contains(&side) {
         return Err(Refusal::Side);
     }
-    Ok(side)
+    Ok(Job { side, stream })
 }

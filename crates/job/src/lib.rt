@@ -3,6 +3,7 @@
 
 mod admit;
 mod draw;
+mod job;
 mod refusal;
 
 pub use draw::{draw_job, draw_job_cut};
