@@ -8,27 +8,29 @@ use run::types::Life;
 // What a call answers for which there is no memory: no number of a refusal.
 pub(crate) const NO_MEMORY: u8 = 255;
 
-// What a job comes to: the number of its refusal, or 0, and how many bytes were printed.
+// What a job comes to: the number of its refusal, or 0, and how many bytes were printed; the C interface knows no Result.
 #[repr(C)]
-#[derive(Clone, Copy)]
+#[derive(Clone, Copy, Debug, PartialEq, Eq)]
 pub struct Drawn {
     pub printed: usize,
     pub refusal: u8,
 }
 
-// The answer of a job in numbers.
-pub(crate) fn drawn_as(answer: Result<usize, Refusal>) -> Drawn
-    ensures { result ≡ drawn_as answer }
-{
-    match answer {
-        Ok(printed) => Drawn {
-            printed,
-            refusal: 0,
-        },
-        Err(refusal) => Drawn {
-            printed: 0,
-            refusal: refusal.number(),
-        },
+impl From<Result<usize, Refusal>> for Drawn {
+    ghost from_gives = { λ answer drawn. drawn ≡ drawn_as answer };
+
+    // The answer of a job in numbers.
+    fn from(answer: Result<usize, Refusal>) -> Drawn {
+        match answer {
+            Ok(printed) => Drawn {
+                printed,
+                refusal: 0,
+            },
+            Err(refusal) => Drawn {
+                printed: 0,
+                refusal: refusal.number(),
+            },
+        }
     }
 }
 

@@ -1,7 +1,7 @@
 // A job drawn for a caller that is not proved.
 ghost use Rattle.exported.specs.Answers.{JobAnswered};
 
-use crate::answers::{Drawn, NO_MEMORY, drawn_as};
+use crate::answers::{Drawn, NO_MEMORY};
 use job::draw_job_cut;
 use reader::reader::Reader;
 use std::alloc::Global;
@@ -16,11 +16,11 @@ pub extern "C" fn wiefturn_draw_job(
 ) -> Drawn
     ensures { JobAnswered job.now out.old result out.new }
 {
-    match Reader::new(heap) {
-        Ok(mut reader) => drawn_as(draw_job_cut(&mut reader, job, lengths, out)),
-        Err(_) => Drawn {
+    let Ok(mut reader) = Reader::new(heap) else {
+        return Drawn {
             printed: 0,
             refusal: NO_MEMORY,
-        },
-    }
+        };
+    };
+    Drawn::from(draw_job_cut(&mut reader, job, lengths, out))
 }

@@ -38,8 +38,8 @@ pub extern "C" fn wiefturn_draw_page(
     if let Err(unfit) = raster::ask(side, memory) {
         return unfit.number();
     }
-    match Reader::new(heap) {
-        Ok(mut reader) => life_number(draw_on(&mut reader, side, memory, stream, piece).life),
-        Err(_) => NO_MEMORY,
-    }
+    let Ok(mut reader) = Reader::new(heap) else {
+        return NO_MEMORY;
+    };
+    life_number(draw_on(&mut reader, side, memory, stream, piece).life)
 }

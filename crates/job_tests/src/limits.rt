@@ -1,16 +1,14 @@
 // Jobs at the limits of names, bodies, marks, calls and statements.
 use crate::lines::reports;
 use std::alloc::{AllocError, Global};
+use std::iter;
 use std::test::Fail;
 
 // A job of side 8 that begins with these bytes and goes on with a byte, so many times.
 fn repeating(heap: Global, front: &[u8], byte: u8, times: usize) -> Result<Vec<u8>, AllocError> {
-    let mut job = Vec::new(heap);
-    job.extend_from_slice(&[0, 8])?;
+    let mut job = Vec::from_slice(heap, &[0, 8])?;
     job.extend_from_slice(front)?;
-    for _ in 0..times {
-        job.extend_from_slice(&[byte])?;
-    }
+    job.extend(iter::repeat_n(byte, times))?;
     Ok(job)
 }
 
@@ -30,8 +28,7 @@ fn bodies_of_1024_bytes(rt: HostRuntime) -> Result<(), Fail> {
 
 // A job of side 8 with so many empty definitions, each of seven bytes.
 fn defining(heap: Global, names: u8) -> Result<Vec<u8>, AllocError> {
-    let mut job = Vec::new(heap);
-    job.extend_from_slice(&[0, 8])?;
+    let mut job = Vec::from_slice(heap, &[0, 8])?;
     for k in 0..names {
         job.extend_from_slice(&[15, 2, b'A' + k / 10 % 10, b'0' + k % 10, 1, 0x80, 16])?;
     }
@@ -66,8 +63,7 @@ fn marks_of_64(rt: HostRuntime) -> Result<(), Fail> {
 
 // A job of side 8 in which each of so many definitions, of eleven bytes, has NULL and a call of the next name, and the first is called.
 fn calling(heap: Global, definitions: u8) -> Result<Vec<u8>, AllocError> {
-    let mut job = Vec::new(heap);
-    job.extend_from_slice(&[0, 8])?;
+    let mut job = Vec::from_slice(heap, &[0, 8])?;
     for k in 0..definitions {
         let name = b'A' + k % 16;
         job.extend_from_slice(&[15, 1, name, 1, 0x80, 0, 17, 1, name + 1, 0, 16])?;

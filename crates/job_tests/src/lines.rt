@@ -17,7 +17,7 @@ pub fn reports(heap: Global, job: &[u8], line: &[u8]) -> Result<(), Fail> {
     let Ok(count) = draw_job(&mut reader, job, &mut out) else {
         return Err(Fail::new("the job is refused"));
     };
-    if PAGE <= count && count <= ROOM && &out[PAGE..count] == line {
+    if out.get(PAGE..count) == Some(line) {
         Ok(())
     } else {
         Err(Fail::new("another line"))

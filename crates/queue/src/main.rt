@@ -17,12 +17,11 @@ fn main(rt: HostRuntime) -> anyhow::Result<()> {
     let mut reader = Reader::new(rt.alloc())?;
     let mut out = vec![in rt.alloc(); 0u8; ROOM]?;
     match draw_job(&mut reader, &job, &mut out) {
-        Ok(n) if n <= out.len() => rt.stdout().write_all(&out[0..n])?,
-        Ok(_) => {}
-        Err(refusal) => {
-            let number = refusal.number();
-            println!(rt; "job {number}")?;
+        Ok(printed) => {
+            out.truncate(printed);
+            rt.stdout().write_all(&out)?;
         }
+        Err(refusal) => println!(rt; "job {}", refusal.number())?,
     }
     Ok(())
 }
