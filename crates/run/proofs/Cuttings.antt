@@ -6,7 +6,7 @@ use Rattle.run.specs.declared.types.Life.{Life}
 use Rattle.run.specs.declared.types.Life.TheVariants.{Live, Closed, Refused}
 use Rattle.run.specs.Runs.{Config, step_live, step, run, begun, is_outside, is_empty, finish_live, finish, report_of}
 use Rattle.run.specs.Cuttings.{Call, feed, finishing, reporting, answering, played, stream, finishes, SameOutcome, Cuts, CutsAlike}
-use Rattle.run.proofs.Steps.{not_true, run-++}
+use Rattle.run.proofs.Steps.{run-++}
 
 -- closed or refused: nothing changes any more
 abbrev is_over : Life → Bool
@@ -15,7 +15,7 @@ is_over Closed = true
 is_over (Refused f) = true
 
 still_step : (l : Life) (c : Config) (b : ℕ) → c.drawing.life ≡ l → is_over l ≡ true → step c b ≡ c
-still_step Live c b e h = not_true (sym h)
+still_step Live c b e h = cc
 still_step Closed c b e h = ap (λ z. step_live z c b) e
 still_step (Refused f) c b e h = ap (λ z. step_live z c b) e
 
@@ -27,7 +27,7 @@ abbrev finish_by : Life → Config → Config
 finish_by l c = record { drawing = finish_live l c.read c.drawing; read = c.read; count = c.count }
 
 still_finish : (l : Life) (c : Config) → c.drawing.life ≡ l → is_over l ≡ true → finish c ≡ c
-still_finish Live c e h = not_true (sym h)
+still_finish Live c e h = cc
 still_finish Closed c e h = ap (λ l. finish_by l c) e
 still_finish (Refused f) c e h = ap (λ l. finish_by l c) e
 

@@ -1,5 +1,5 @@
 -- What is performed in a body, and the bytes that do the same in a picture.
-use Rattle.std.proofs.Common.{◌≡◌, ℕ, zero, suc, ◌+◌, Bool, true, false, cond, ◌&&◌, leb, List, [], ◌∷◌, ◌++◌, length, Some, None, Option, sym, refl, ap, ◌∙◌, subst, arith}
+use Rattle.std.proofs.Common.{◌≡◌, ℕ, zero, suc, ◌+◌, Bool, true, false, cond, ◌&&◌, leb, List, [], ◌∷◌, ◌++◌, length, Some, None, Option, sym, refl, ap, ◌∙◌, subst}
 use Rattle.geometry.specs.declared.field.Point.{Point}
 use Rattle.statement.specs.declared.layout.Trace.TheVariants.{Blank}
 use Rattle.statement.specs.declared.layout.Aim.TheVariants.{Absolute}
@@ -22,9 +22,9 @@ use Rattle.run.proofs.Spelled.{drawing_here, plays_act, runs_act}
 -- where no fault is found, the third test was passed
 third_passed : (t u v : Bool) (f g h : Unread) (r : Option Unread) → first_of (unless t f) (first_of (unless u g) (first_of (unless v h) r)) ≡ None → v ≡ true
 third_passed true true true f g h r e = refl
-third_passed true true false f g h r e = absurd (let z : ◌≡◌ {A = ℕ} 0 1 = cc in omega arith)
-third_passed true false v f g h r e = absurd (let z : ◌≡◌ {A = ℕ} 0 1 = cc in omega arith)
-third_passed false u v f g h r e = absurd (let z : ◌≡◌ {A = ℕ} 0 1 = cc in omega arith)
+third_passed true true false f g h r e = cc
+third_passed true false v f g h r e = cc
+third_passed false u v f g h r e = cc
 
 lawful_tail_lem : (n : List ℕ) (t : CallTail) → Lawful (act (call n t)) → lawful_tail t ≡ true
 lawful_tail_lem n t l =
@@ -34,7 +34,7 @@ lawful_tail_lem n t l =
 reached : (t : Bool) (s : Spot) (p : Point) (i : Ink) (k : ℕ) → fine (out_of s (cond t (good (beam_at p i)) (stopped fault.OffField i)) k)
     → (out_of s (cond t (good (beam_at p i)) (stopped fault.OffField i)) k).ink ≡ beam_at p i
 reached true s p i k x = refl
-reached false s p i k x = never x
+reached false s p i k x = cc
 
 module _ (T : List Entry) (p : ℕ) where
   -- between two statements of a picture

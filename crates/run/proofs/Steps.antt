@@ -1,5 +1,5 @@
 -- One byte, of runs that differ in the bytes read and the statement count.
-use Rattle.std.proofs.Common.{◌≡◌, ℕ, ◌+◌, Bool, true, false, cond, leb, List, [], ◌∷◌, ◌++◌, length, Some, None, Option, sym, refl, ap, ◌∙◌, arith}
+use Rattle.std.proofs.Common.{◌≡◌, ℕ, ◌+◌, Bool, true, false, cond, leb, List, [], ◌∷◌, ◌++◌, length, Some, None, Option, sym, refl, ap, ◌∙◌}
 use Rattle.statement.specs.declared.types.Home.TheVariants as home
 use Rattle.statement.specs.Statements.{Said, erase, endpic, subhed, subend, act}
 use Rattle.statement.specs.Reading.{Shape, more, refused, whole, reading}
@@ -16,44 +16,41 @@ use Rattle.run.proofs.Agreeing.{perform_agree}
 abbrev pub with_counts : Drawing → ℕ → ℕ → Config
 with_counts d r k = record { drawing = d; read = r; count = k }
 
-pub not_true : {X : Type 0} → ◌≡◌ {A = Bool} true false → X
-not_true e = absurd (let z : ◌≡◌ {A = ℕ} 0 1 = cc in omega arith)
-
 pub none_refused : (at : ℕ) (r : Option Trouble) → is_refused (life_after at r) ≡ false → r ≡ None
 none_refused at None e = refl
-none_refused at (Some t) e = not_true e
+none_refused at (Some t) e = cc
 
 -- what is not refused is below the limit on a stream's length
 pub below_limit : (t : Bool) (c d : Config) → NotRefused (cond t (too_long c) d) → cond t (too_long c) d ≡ d
-below_limit true c d h = not_true h
+below_limit true c d h = cc
 below_limit false c d h = refl
 
 -- the place of a refusal does not matter to what is not refused
 unless_placed : (t : Bool) (f : Fault) (p q : ℕ) (d e : Drawing) → is_refused (cond t (refusing f p d) e).life ≡ false → cond t (refusing f p d) e ≡ cond t (refusing f q d) e
-unless_placed true f p q d e h = not_true h
+unless_placed true f p q d e h = cc
 unless_placed false f p q d e h = refl
 
 taken_agree : (st : Stance) (s : Said) (h : List ℕ) (p q : ℕ) (d : Drawing) (k l : ℕ)
     → is_refused (taken st s h p d k).drawing.life ≡ false → is_refused (taken st s h q d l).drawing.life ≡ false
     → (taken st s h p d k).drawing ≡ (taken st s h q d l).drawing
 taken_agree outside erase h p q d k l x y = refl
-taken_agree outside endpic h p q d k l x y = not_true x
+taken_agree outside endpic h p q d k l x y = cc
 taken_agree outside (subhed n e) h p q d k l x y = unless_placed (is_full d.table n) fault.NoRoom p q d (stance_as (defining home.Outside n e []) d) x
-taken_agree outside subend h p q d k l x y = not_true x
-taken_agree outside (act a) h p q d k l x y = not_true x
-taken_agree picture erase h p q d k l x y = not_true x
+taken_agree outside subend h p q d k l x y = cc
+taken_agree outside (act a) h p q d k l x y = cc
+taken_agree picture erase h p q d k l x y = cc
 taken_agree picture endpic h p q d k l x y = refl
 taken_agree picture (subhed n e) h p q d k l x y = unless_placed (is_full d.table n) fault.NoRoom p q d (stance_as (defining home.Picture n e []) d) x
-taken_agree picture subend h p q d k l x y = not_true x
+taken_agree picture subend h p q d k l x y = cc
 taken_agree picture (act a) h p q d k l x y =
     let o = perform_top d.table a d.ink k in
     let r = perform_top d.table a d.ink l in
     let u = none_refused p o.refusal x in
     let v = none_refused q r.refusal y in
     ap (ink_as p d o.ink) u ∙ ap (λ z. ink_as p d z None) (perform_agree d.table 8 8 [] [] 0 0 a d.ink k l u v) ∙ sym (ap (ink_as q d r.ink) v)
-taken_agree (defining w n e bs) erase h p q d k l x y = not_true x
-taken_agree (defining w n e bs) endpic h p q d k l x y = not_true x
-taken_agree (defining w n e bs) (subhed m f) h p q d k l x y = not_true x
+taken_agree (defining w n e bs) erase h p q d k l x y = cc
+taken_agree (defining w n e bs) endpic h p q d k l x y = cc
+taken_agree (defining w n e bs) (subhed m f) h p q d k l x y = cc
 taken_agree (defining w n e bs) subend h p q d k l x y = refl
 taken_agree (defining w n e bs) (act a) h p q d k l x y =
     unless_placed (leb 1025 (length (bs ++ h))) fault.NoRoom p q d (stance_as (defining w n e (bs ++ h)) d) x
@@ -62,7 +59,7 @@ heeding_agree : (h : List ℕ) (s : Shape) (p q : ℕ) (d : Drawing) (k l : ℕ)
     → is_refused (heeding h s p d k).drawing.life ≡ false → is_refused (heeding h s q d l).drawing.life ≡ false
     → (heeding h s p d k).drawing ≡ (heeding h s q d l).drawing
 heeding_agree h more p q d k l x y = refl
-heeding_agree h (refused f) p q d k l x y = not_true x
+heeding_agree h (refused f) p q d k l x y = cc
 heeding_agree h (whole s) p q d k l x y = taken_agree d.stance s h p q d k l x y
 
 step_live_agree : (f : Life) (d : Drawing) (r k s l b : ℕ) → NotRefused (step_live f (with_counts d r k) b) → NotRefused (step_live f (with_counts d s l) b)
