@@ -13,7 +13,7 @@ pub struct Story<'a> {
     pub end: End,
 }
 
-// Reads what is left of a stream.
+// Reads what is left of a stream, in a loop, since the end comes out of the same step as the statements.
 fn tell<'a>(heap: Global, mut walker: Walker<'a>) -> Result<Story<'a>, AllocError>
     ensures { IfOk result (λ s. Tells s.told.items s.end (from_place walker.entry.standing walker.entry.place walker.entry.bytes.now [])) }
 {
