@@ -1,7 +1,6 @@
 -- Operations, one by one, against the book of a whole list.
-use Rattle.std.proofs.Common.{◌≡◌, ℕ, suc, ◌+◌, ◌<◌, true, false, List, [], ◌∷◌, ◌++◌, length, get_or, drop, set, is_ok, Some, None, Ok, Err, Option, Result, sym, refl, ap, ◌∙◌, add-zero, arith, length-append, Bor}
+use Rattle.std.proofs.Common.{◌≡◌, ℕ, suc, ◌+◌, true, false, List, [], ◌∷◌, ◌++◌, length, set, is_ok, Some, None, Ok, Err, Option, Result, sym, refl, ap, ◌∙◌, add-zero, arith, length-append, Bor}
 use lib.Seq.{sets, length-sets}
-use Rattle.std.proofs.lemmas.List.{at_drop_more}
 use Rattle.std.proofs.lemmas.Bool.{true≢false, false≢true}
 use Rattle.statement.specs.declared.types.Statement.{Statement}
 use Rattle.statement.specs.Statements.{Said, erase, endpic, subhed, subend, act}
@@ -99,11 +98,11 @@ pub book_end : (out : List ℕ) (ns : List (List ℕ)) (n : ℕ) (o : Opened) �
 book_end out ns n o =
     ap (λ m. kept (sets out n (spell (closing o))) (n + length (spell (closing o))) m []) (length-sets out n (spell (closing o))) ∙ kept_more out n (length out) (closing o) []
 
--- the list from a place on, where the operation there is known
-pub book_from : (out : List ℕ) (st : State) (ops : List Operation) (i : ℕ) (op : Operation) → i < length ops → get_or ops i Picture ≡ op → book out st (op ∷ drop (i + 1) ops) ≡ book out st (drop i ops)
-book_from out st ops i op h e =
+-- a list whose first operation is known
+pub book_from : (out : List ℕ) (st : State) (op first : Operation) (ops rest : List Operation) → ops ≡ first ∷ rest → first ≡ op → book out st (op ∷ rest) ≡ book out st ops
+book_from out st op first ops rest h e =
     let f : List Operation → Book = book out st in
-    ap (λ o. f (o ∷ drop (i + 1) ops)) (sym e) ∙ sym (at_drop_more f ops i Picture h)
+    ap (λ o. f (o ∷ rest)) (sym e) ∙ ap f (sym h)
 
 pub ok_is : (r : Result (Unit {0}) Refusal) → is_ok r ≡ true → r ≡ Ok tt
 ok_is (Ok x) e = refl

@@ -1,5 +1,6 @@
 // Whole lists of operations.
-ghost use Rattle.std.specs.Prelude.{◌≡◌, ◌+◌, ◌≤◌, [], length, drop, Ok};
+ghost use Rattle.std.specs.Prelude.{◌≡◌, ◌+◌, ◌≤◌, [], length, Ok};
+ghost use Rattle.std.specs.Slice.Iter.{iter_rest};
 ghost use Rattle.spelling.specs.Laws.{spell_all};
 ghost use Rattle.writer.specs.Answers.{make_answer};
 ghost use Rattle.writer.specs.Names.{known};
@@ -7,21 +8,19 @@ ghost use Rattle.history.specs.Tales.{idle, busy, book, accepted, play_answer};
 ghost use Rattle.history.specs.Laws.{over_front, ReadsBack};
 
 use crate::operation::Operation;
+use std::slice;
 use writer::opening::{ask, make};
 use writer::state::{Slip, Writer};
 use writer::types::Refusal;
 
-// Plays operations from a place on, up to the one that closes the slip, or to the end and then closes it.
-fn play_slip<'a>(mut slip: Slip<'a>, operations: &[Operation<'_>], next: &mut usize) -> Writer<'a>
-    requires { next.old ≤ length operations.now }
-    ensures far { (next.old ≤ next.new) × (next.new ≤ length operations.now) }
-    ensures book { book result.buffer.now (idle (known result.names) result.used) (drop next.new operations.now) ≡ book slip.entry.buffer.now (busy slip.entry.opened (known slip.entry.names) slip.entry.used) (drop next.old operations.now) }
+// Plays operations up to the one that closes the slip, or to the end and then closes it.
+fn play_slip<'a>(mut slip: Slip<'a>, operations: &mut slice::Iter<'_, Operation<'_>>) -> Writer<'a>
+    ensures shorter { length (iter_rest operations.new) ≤ length (iter_rest operations.old) }
+    ensures book { book result.buffer.now (idle (known result.names) result.used) (iter_rest operations.new) ≡ book slip.entry.buffer.now (busy slip.entry.opened (known slip.entry.names) slip.entry.used) (iter_rest operations.old) }
     ensures tied { result.buffer.ghost_name ≡ slip.entry.buffer.ghost_name }
 {
-    while *next < operations.len() {
-        let operation = operations[*next];
-        *next += 1;
-        match operation {
+    while let Some(operation) = operations.next() {
+        match *operation {
             Operation::Write(statement) => {
                 let _ = slip.write(statement);
             }
@@ -37,20 +36,18 @@ fn play_all<'a>(mut writer: Writer<'a>, operations: &[Operation<'_>]) -> Writer<
     ensures book { book result.buffer.now (idle (known result.names) result.used) [] ≡ book writer.entry.buffer.now (idle (known writer.entry.names) writer.entry.used) operations.now }
     ensures tied { result.buffer.ghost_name ≡ writer.entry.buffer.ghost_name }
 {
-    let mut next = 0;
-    while next < operations.len() {
-        let operation = operations[next];
-        next += 1;
-        match operation {
+    let mut rest = operations.iter();
+    while let Some(operation) = rest.next() {
+        match *operation {
             Operation::Picture => {
                 if writer.ask_picture().is_ok() {
-                    writer = play_slip(writer.open_picture(), operations, &mut next);
+                    writer = play_slip(writer.open_picture(), &mut rest);
                 }
             }
             Operation::Definition { name, header } => {
                 if writer.ask_definition(name, header).is_ok() {
                     let slip = writer.open_definition(name, header);
-                    writer = play_slip(slip, operations, &mut next);
+                    writer = play_slip(slip, &mut rest);
                 }
             }
             Operation::Write(_) | Operation::Close => {}
@@ -87,8 +84,6 @@ pub fn play(buffer: &mut [u8], operations: &[Operation<'_>]) -> Result<usize, Re
     ensures bytes { buffer.new ≡ over_front result (spell_all (accepted (length buffer.old) operations.now)) buffer.old }
     ensures back { ReadsBack result buffer.new (accepted (length buffer.old) operations.now) }
 {
-    match ask(buffer) {
-        Ok(()) => Ok(play_asked(buffer, operations)),
-        Err(refusal) => Err(refusal),
-    }
+    ask(buffer)?;
+    Ok(play_asked(buffer, operations))
 }
