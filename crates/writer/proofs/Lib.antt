@@ -1,3 +1,2 @@
-pub mod Fronts
-pub mod Staged
+pub mod Parts
 pub mod Judged

@@ -1,18 +1,18 @@
 -- The names that are known to a writer.
-use Rattle.std.specs.Prelude.{ℕ, Bool, false, cond, not, ◌&&◌, ◌||◌, List, [], ◌∷◌, ◌++◌, map, length, take, nat_le}
+use Rattle.std.specs.Prelude.{ℕ, Bool, cond, not, ◌&&◌, List, [], ◌∷◌, ◌++◌, map, length, nat_le}
+use Rattle.std.specs.List.{list_any}
 use Rattle.std.specs.Str.{bytes_eq}
-use Rattle.writer.specs.declared.types.Name.{Name}
+use Rattle.arrayvec.specs.ArrayVec.{ArrayVec}
 use Rattle.writer.specs.declared.types.Names.{Names}
 
-abbrev pub letters : Name → List ℕ
-letters n = take n.count n.characters
+abbrev pub letters : ArrayVec ℕ → List ℕ
+letters n = n.items
 
 abbrev pub known : Names → List (List ℕ)
-known ns = map letters (take ns.used ns.each)
+known ns = map letters ns.each.items
 
 abbrev pub is_known : List ℕ → List (List ℕ) → Bool
-is_known n [] = false
-is_known n (m ∷ ms) = bytes_eq m n || is_known n ms
+is_known n ms = list_any (λ m. bytes_eq m n) ms
 
 -- the names that are known with one more
 abbrev pub with_name : List (List ℕ) → List ℕ → List (List ℕ)

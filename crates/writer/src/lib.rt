@@ -6,7 +6,6 @@ mod names;
 pub mod opening;
 pub mod refusal;
 pub mod sample;
-mod staging;
 pub mod state;
 pub mod types;
 pub mod writing;

@@ -1,32 +1,17 @@
 // The names defined so far.
 ghost use Rattle.std.specs.Prelude.{◌≡◌, ◌≤◌, false, [], length};
+ghost use Rattle.std.specs.List.{list_any};
 ghost use Rattle.std.specs.Str.{bytes_eq};
 ghost use Rattle.writer.specs.Names.{letters, known, is_known, with_name, is_one_too_many};
 
 use crate::types::{Name, Names};
+use arrayvec::ArrayVec;
 
-// The most names.
-const MOST_NAMES: usize = 32;
-
-impl Name {
-    // A name of these characters.
-    fn of(bytes: &[u8]) -> Name
-        requires { length bytes.now ≤ 8 }
-        ensures { letters result ≡ bytes.now }
-    {
-        let mut characters = [0; 8];
-        let count = bytes.len();
-        characters[0..count].copy_from_slice(bytes);
-        Name { characters, count }
-    }
-
-    // Whether the name has these characters.
-    fn is(&self, bytes: &[u8]) -> bool
-        ensures { result ≡ bytes_eq (letters self.now) bytes.now }
-    {
-        let own = &self.characters[0..self.count];
-        own == bytes
-    }
+// Whether one of these names has these characters.
+fn is_among(names: &[Name], name: &[u8]) -> bool
+    ensures { result ≡ list_any (λ m. bytes_eq (letters m) name.now) names.now }
+{
+    names.iter().any(|own| own.as_slice() == name)
 }
 
 impl Names {
@@ -34,33 +19,23 @@ impl Names {
     pub(crate) fn none() -> Names
         ensures { known result ≡ [] }
     {
-        let name = Name {
-            characters: [0; 8],
-            count: 0,
-        };
         Names {
-            each: [name; 32],
-            used: 0,
+            each: ArrayVec::new(),
         }
     }
 
     // Whether a name is known.
-    pub(crate) fn has(&self, name: &[u8]) -> bool
+    fn has(&self, name: &[u8]) -> bool
         ensures { result ≡ is_known name.now (known self.now) }
     {
-        for i in 0..self.used {
-            if self.each[i].is(name) {
-                return true;
-            }
-        }
-        false
+        is_among(self.each.as_slice(), name)
     }
 
     // Whether a name is new where 32 are known.
     pub(crate) fn is_one_too_many(&self, name: &[u8]) -> bool
         ensures { result ≡ is_one_too_many (known self.now) name.now }
     {
-        self.used >= MOST_NAMES && !self.has(name)
+        self.each.is_full() && !self.has(name)
     }
 
     // Knows one name more, or still the same.
@@ -69,10 +44,8 @@ impl Names {
         requires room { is_one_too_many (known self.old) name.now ≡ false }
         ensures { known self.new ≡ with_name (known self.old) name.now }
     {
-        if self.has(name) {
-            return;
+        if !self.has(name) {
+            self.each.push(Name::try_from(name).unwrap());
         }
-        self.each[self.used] = Name::of(name);
-        self.used += 1;
     }
 }

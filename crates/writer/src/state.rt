@@ -1,4 +1,4 @@
-// The writer and the slip, over lent memory.
+// The writer and the slip, over lent memory: the buffer stays the caller's, so what is written has its number beside it.
 ghost use Rattle.std.specs.Prelude.{◌≡◌, ◌+◌, ◌<◌, ◌≤◌, length};
 ghost use Rattle.std.proofs.lemmas.List.Edits.{sets};
 ghost use Rattle.spelling.specs.Spelling.{spell};

@@ -1,10 +1,10 @@
 // What a writer keeps, and why it refuses.
-ghost use Rattle.std.specs.Prelude.{◌≤◌, length};
-
+use arrayvec::ArrayVec;
+use statement::limits::LONGEST_NAME;
 use statement::types::Fault;
 
 // Why something is not written.
-#[derive(Clone, Copy)]
+#[derive(Clone, Copy, Debug, PartialEq, Eq)]
 pub enum Refusal {
     // the statement itself
     Statement(Fault),
@@ -17,26 +17,21 @@ pub enum Refusal {
 }
 
 // What is open.
-#[derive(Clone, Copy)]
+#[derive(Clone, Copy, Debug, PartialEq, Eq)]
 pub enum Opened {
     Picture,
     // a definition, and the place where its body begins
     Definition(usize),
 }
 
-// A name: its first characters.
-#[derive(Clone, Copy)]
-pub(crate) struct Name {
-    pub(crate) characters: [u8; 8],
-    pub(crate) count: usize,
-    ghost short: { count ≤ 8 },
-}
+// The most names.
+const MOST_NAMES: usize = 32;
+
+// A name: its characters.
+pub(crate) type Name = ArrayVec<u8, LONGEST_NAME>;
 
 // The names defined so far, each once.
-#[derive(Clone, Copy)]
+#[derive(Drop)]
 pub(crate) struct Names {
-    pub(crate) each: [Name; 32],
-    pub(crate) used: usize,
-    ghost few: { used ≤ 32 },
-    ghost all: { 32 ≤ length each },
+    pub(crate) each: ArrayVec<Name, MOST_NAMES>,
 }

@@ -1,16 +1,15 @@
 // Writing on a slip.
-ghost use Rattle.std.specs.Prelude.{◌≡◌, ◌+◌, ◌<◌, length, Ok};
+ghost use Rattle.std.specs.Prelude.{◌≡◌, ◌+◌, ◌<◌, ◌≤◌, length};
 ghost use Rattle.std.proofs.lemmas.List.Edits.{sets};
 ghost use Rattle.statement.specs.Views.{said_by};
-ghost use Rattle.spelling.specs.Spelling.{spell, Lawful};
-ghost use Rattle.writer.specs.Answers.{write_answer, definition_answer, heading, passed};
+ghost use Rattle.spelling.specs.Spelling.{spell};
+ghost use Rattle.writer.specs.Answers.{write_answer, passed};
 ghost use Rattle.writer.specs.Bodies.{stays_short};
-ghost use Rattle.writer.specs.Names.{known, with_name};
 
-use crate::faults::{heading_of, judge, writing_fault};
-use crate::staging::{LONGEST_SPELLING, has_room, is_shorter, stage};
+use crate::faults::spelling_within;
 use crate::state::Slip;
 use crate::types::{Opened, Refusal};
+use statement::limits::LONGEST_BODY;
 use statement::types::Statement;
 
 impl Slip<'_> {
@@ -23,59 +22,20 @@ impl Slip<'_> {
         ensures bytes { self.new.buffer.now ≡ sets self.old.buffer.now self.old.used bytes.now }
         ensures tied { self.new.buffer.ghost_name ≡ self.old.buffer.ghost_name }
     {
-        for b in bytes {
-            self.buffer[self.used] = *b;
-            self.used += 1;
-        }
+        let end = self.used + bytes.len();
+        self.buffer[self.used..end].copy_from_slice(bytes);
+        self.used = end;
     }
 
-    // Spells a lawful statement that leaves one byte free.
-    fn lay(&mut self, statement: Statement<'_>)
-        requires lawful { Lawful (said_by statement) }
-        requires free { self.old.used + length (spell (said_by statement)) < length self.old.buffer.now }
-        ensures opened { self.new.opened ≡ self.old.opened }
-        ensures names { self.new.names ≡ self.old.names }
-        ensures used { self.new.used ≡ self.old.used + length (spell (said_by statement.entry)) }
-        ensures bytes { self.new.buffer.now ≡ sets self.old.buffer.now self.old.used (spell (said_by statement.entry)) }
-        ensures tied { self.new.buffer.ghost_name ≡ self.old.buffer.ghost_name }
-    {
-        let mut staged = [0; LONGEST_SPELLING];
-        let size = stage(statement, &mut staged);
-        self.put(&staged[0..size]);
-    }
-
-    // Whether the body, if one is open, has room for a statement.
-    fn stays_short(&self, statement: &Statement<'_>) -> bool
-        ensures { result ≡ stays_short self.now.opened self.now.used (length (spell (said_by statement.now))) }
+    // Whether the body, if one is open, has room for so many bytes.
+    fn stays_short(&self, size: usize) -> bool
+        requires { size ≤ 516 }
+        ensures { result ≡ stays_short self.now.opened self.now.used size }
     {
         match self.opened {
             Opened::Picture => true,
-            Opened::Definition(start) => has_room(self.used - start, statement),
+            Opened::Definition(start) => self.used - start + size <= LONGEST_BODY,
         }
-    }
-
-    // Whether a statement may be written here.
-    fn admit(&self, statement: &Statement<'_>) -> Result<(), Refusal>
-        ensures { result ≡ write_answer self.now.opened self.now.used (length self.now.buffer.now) (said_by statement.now) }
-    {
-        let free = self.buffer.len() - self.used;
-        judge(
-            writing_fault(statement),
-            self.stays_short(statement),
-            is_shorter(statement, free),
-        )
-    }
-
-    // Appends a statement that is admitted.
-    fn append(&mut self, statement: Statement<'_>)
-        requires { write_answer self.old.opened self.old.used (length self.old.buffer.now) (said_by statement) ≡ Ok tt }
-        ensures opened { self.new.opened ≡ self.old.opened }
-        ensures names { self.new.names ≡ self.old.names }
-        ensures used { self.new.used ≡ self.old.used + length (spell (said_by statement.entry)) }
-        ensures bytes { self.new.buffer.now ≡ sets self.old.buffer.now self.old.used (spell (said_by statement.entry)) }
-        ensures tied { self.new.buffer.ghost_name ≡ self.old.buffer.ghost_name }
-    {
-        self.lay(statement);
     }
 
     // Writes a statement, or refuses it and alters nothing.
@@ -87,24 +47,14 @@ impl Slip<'_> {
         ensures bytes { self.new.buffer.now ≡ sets self.old.buffer.now self.old.used (passed result (spell (said_by statement.entry))) }
         ensures tied { self.new.buffer.ghost_name ≡ self.old.buffer.ghost_name }
     {
-        self.admit(&statement)?;
-        self.append(statement);
+        let spelling = spelling_within(statement)?;
+        if !self.stays_short(spelling.len()) {
+            return Err(Refusal::NoRoom);
+        }
+        if spelling.len() >= self.buffer.len() - self.used {
+            return Err(Refusal::Buffer);
+        }
+        self.put(spelling.as_slice());
         Ok(())
-    }
-
-    // Begins the body of a definition that was asked for.
-    pub(crate) fn head(&mut self, label: &[u8], header: u8)
-        requires { definition_answer (known self.old.names) self.old.used (length self.old.buffer.now) label.now header ≡ Ok tt }
-        ensures opened { self.new.opened ≡ Opened.Definition self.new.used }
-        ensures names { known self.new.names ≡ with_name (known self.old.names) label.now }
-        ensures used { self.new.used ≡ self.old.used + length (spell (heading label.now header)) }
-        ensures bytes { self.new.buffer.now ≡ sets self.old.buffer.now self.old.used (spell (heading label.now header)) }
-        ensures tied { self.new.buffer.ghost_name ≡ self.old.buffer.ghost_name }
-    {
-        let mut names = self.names;
-        names.add(label);
-        self.names = names;
-        self.lay(heading_of(label, header));
-        self.opened = Opened::Definition(self.used);
     }
 }
