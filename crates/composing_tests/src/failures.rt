@@ -4,125 +4,114 @@ use composing::report::report;
 use std::alloc::Global;
 use std::test::Fail;
 
-// Whether a text, composed into a buffer of so many bytes, fails as told.
-fn fails(heap: Global, text: &[u8], room: usize, told: &[u8]) -> Result<(), Fail> {
-    let mut out = vec![in heap; 0u8; room]?;
-    let answer = compose(heap, text, out.as_mut_slice())?;
+// A text, the room that it is composed into, and how its failure is told.
+#[derive(Clone, Copy)]
+struct Case<'a> {
+    what: &'a str,
+    text: &'a [u8],
+    room: usize,
+    told: &'a str,
+}
+
+const CASES: [Case<'static>; 12] = [
+    Case {
+        what: "act outside",
+        text: b"MOVEA 0 0\n",
+        room: 9,
+        told: "refused under 2 at line 1",
+    },
+    Case {
+        what: "ERASE in a picture",
+        text: b"ERASE\n\nERASE\n",
+        room: 9,
+        told: "refused under 2 at line 3",
+    },
+    Case {
+        what: "ENDPIC in a definition",
+        text: b"SUBHED A 80\nENDPIC\n",
+        room: 9,
+        told: "refused under 2 at line 2",
+    },
+    Case {
+        what: "SUBHED in a picture",
+        text: b"ERASE\nSUBHED A 80\n",
+        room: 9,
+        told: "refused under 2 at line 2",
+    },
+    Case {
+        what: "long name",
+        text: b"SUBHED ABCDEFGHI 80",
+        room: 99,
+        told: "refused under 4 at line 1",
+    },
+    Case {
+        what: "name in small letters",
+        text: b"SUBHED a 80",
+        room: 9,
+        told: "refused under 5 at line 1",
+    },
+    Case {
+        what: "text above 127",
+        text: b"ERASE\nTEXT \"\\x80\"",
+        room: 9,
+        told: "refused under 5 at line 2",
+    },
+    Case {
+        what: "coordinate off the screen",
+        text: b"ERASE\nMOVEA 16384 0",
+        room: 9,
+        told: "refused under 6 at line 2",
+    },
+    Case {
+        what: "long AS name",
+        text: b"ERASE\nINSTS A AS \"ABCDEFGHI\"",
+        room: 99,
+        told: "refused under 7 at line 2",
+    },
+    Case {
+        what: "buffer too short",
+        text: b"ERASE\nMARK\n",
+        room: 2,
+        told: "refused under 21 at line 2",
+    },
+    Case {
+        what: "small letters",
+        text: b"ERASE\nmark\n",
+        room: 9,
+        told: "unreadable at line 2",
+    },
+    Case {
+        what: "open at the end",
+        text: b"ERASE\nMARK\n",
+        room: 9,
+        told: "unfinished at line 2",
+    },
+];
+
+// Fails unless a text fails as told.
+fn check_case(heap: Global, case: Case<'_>) -> Result<(), Fail> {
+    let mut out = vec![in heap; 0u8; case.room]?;
+    let answer = compose(heap, case.text, out.as_mut_slice())?;
     let failure = answer.err().ok_or("composed")?;
-    let line = report(heap, failure)?;
-    if line.as_bytes() == told {
+    if report(heap, failure)?.as_str() == case.told {
         Ok(())
     } else {
-        Err(Fail::new("told otherwise"))
+        Err(Fail::new(case.what))
     }
 }
 
 #[test]
-fn act_outside(rt: HostRuntime) -> Result<(), Fail> {
-    fails(rt.alloc(), b"MOVEA 0 0\n", 9, b"refused under 2 at line 1")
+fn short_texts(rt: HostRuntime) -> Result<(), Fail> {
+    for case in CASES {
+        check_case(rt.alloc(), case)?;
+    }
+    Ok(())
 }
 
-#[test]
-fn erase_in_a_picture(rt: HostRuntime) -> Result<(), Fail> {
-    fails(
-        rt.alloc(),
-        b"ERASE\n\nERASE\n",
-        9,
-        b"refused under 2 at line 3",
-    )
-}
-
-#[test]
-fn endpic_in_a_definition(rt: HostRuntime) -> Result<(), Fail> {
-    fails(
-        rt.alloc(),
-        b"SUBHED A 80\nENDPIC\n",
-        9,
-        b"refused under 2 at line 2",
-    )
-}
-
-#[test]
-fn subhed_in_a_picture(rt: HostRuntime) -> Result<(), Fail> {
-    fails(
-        rt.alloc(),
-        b"ERASE\nSUBHED A 80\n",
-        9,
-        b"refused under 2 at line 2",
-    )
-}
-
-#[test]
-fn long_name(rt: HostRuntime) -> Result<(), Fail> {
-    fails(
-        rt.alloc(),
-        b"SUBHED ABCDEFGHI 80",
-        99,
-        b"refused under 4 at line 1",
-    )
-}
-
-#[test]
-fn name_in_small_letters(rt: HostRuntime) -> Result<(), Fail> {
-    fails(rt.alloc(), b"SUBHED a 80", 9, b"refused under 5 at line 1")
-}
-
-#[test]
-fn text_above_127(rt: HostRuntime) -> Result<(), Fail> {
-    fails(
-        rt.alloc(),
-        b"ERASE\nTEXT \"\\x80\"",
-        9,
-        b"refused under 5 at line 2",
-    )
-}
-
-#[test]
-fn coordinate_off_the_screen(rt: HostRuntime) -> Result<(), Fail> {
-    fails(
-        rt.alloc(),
-        b"ERASE\nMOVEA 16384 0",
-        9,
-        b"refused under 6 at line 2",
-    )
-}
-
-#[test]
-fn long_as_name(rt: HostRuntime) -> Result<(), Fail> {
-    fails(
-        rt.alloc(),
-        b"ERASE\nINSTS A AS \"ABCDEFGHI\"",
-        99,
-        b"refused under 7 at line 2",
-    )
-}
-
-#[test]
-fn buffer_too_short(rt: HostRuntime) -> Result<(), Fail> {
-    fails(
-        rt.alloc(),
-        b"ERASE\nMARK\n",
-        2,
-        b"refused under 21 at line 2",
-    )
-}
-
-#[test]
-fn small_letters(rt: HostRuntime) -> Result<(), Fail> {
-    fails(rt.alloc(), b"ERASE\nmark\n", 9, b"unreadable at line 2")
-}
-
-#[test]
-fn open_at_the_end(rt: HostRuntime) -> Result<(), Fail> {
-    fails(rt.alloc(), b"ERASE\nMARK\n", 9, b"unfinished at line 2")
-}
-
-// A line of a text of so many letters.
-fn put_text(text: &mut Vec<u8>, letters: usize) -> Result<(), Fail> {
+// Adds a line of a text of these letters.
+fn put_text(text: &mut Vec<u8>, letters: &[u8]) -> Result<(), Fail> {
     text.extend_from_slice(b"TEXT \"")?;
-    for _ in 0..letters {
-        text.push(b'A')?;
-    }
+    text.extend_from_slice(letters)?;
     text.extend_from_slice(b"\"\n")?;
     Ok(())
 }
@@ -131,13 +120,16 @@ fn put_text(text: &mut Vec<u8>, letters: usize) -> Result<(), Fail> {
 fn long_body(rt: HostRuntime) -> Result<(), Fail> {
     let mut text = Vec::new(rt.alloc());
     text.extend_from_slice(b"SUBHED A 80\n")?;
-    put_text(&mut text, 512)?;
-    put_text(&mut text, 512)?;
-    fails(
+    put_text(&mut text, &[b'A'; 512])?;
+    put_text(&mut text, &[b'A'; 512])?;
+    check_case(
         rt.alloc(),
-        text.as_slice(),
-        2000,
-        b"refused under 8 at line 3",
+        Case {
+            what: "long body",
+            text: text.as_slice(),
+            room: 2000,
+            told: "refused under 8 at line 3",
+        },
     )
 }
 
@@ -145,11 +137,14 @@ fn long_body(rt: HostRuntime) -> Result<(), Fail> {
 fn long_text(rt: HostRuntime) -> Result<(), Fail> {
     let mut text = Vec::new(rt.alloc());
     text.extend_from_slice(b"ERASE\n")?;
-    put_text(&mut text, 513)?;
-    fails(
+    put_text(&mut text, &[b'A'; 513])?;
+    check_case(
         rt.alloc(),
-        text.as_slice(),
-        2000,
-        b"refused under 4 at line 2",
+        Case {
+            what: "long text",
+            text: text.as_slice(),
+            room: 2000,
+            told: "refused under 4 at line 2",
+        },
     )
 }

@@ -2,7 +2,7 @@
 use statement::types::Statement;
 
 // What a writer may be asked to do.
-#[derive(Clone, Copy)]
+#[derive(Clone, Copy, Debug, PartialEq, Eq)]
 pub enum Operation<'a> {
     Picture,
     Definition { name: &'a [u8], header: u8 },

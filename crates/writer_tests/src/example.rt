@@ -1,27 +1,16 @@
 // A stream of one picture, as a user of the library writes it.
-use statement::types::{Part, Statement};
+use crate::answers::part;
+use statement::types::Statement;
 use std::test::Fail;
 use writer::opening::{ask, make};
 use writer::state::Slip;
 use writer::types::Refusal;
 
-fn move_to<'a>(x: i16, y: i16) -> Statement<'a> {
-    Statement::Movea(x, y)
-}
-
-fn draw_to<'a>(x: i16, y: i16) -> Statement<'a> {
-    Statement::Drawa(x, y)
-}
-
-fn text(bytes: &[u8]) -> Statement<'_> {
-    Statement::Text(Part { at: 0, bytes })
-}
-
 // Writes a line and a text.
 fn draw(picture: &mut Slip<'_>) -> Result<(), Refusal> {
-    picture.write(move_to(0, 0))?;
-    picture.write(draw_to(100, 100))?;
-    picture.write(text(b"HELLO"))
+    picture.write(Statement::Movea(0, 0))?;
+    picture.write(Statement::Drawa(100, 100))?;
+    picture.write(Statement::Text(part(b"HELLO")))
 }
 
 // Writes a stream of one picture, and gives its length.
@@ -39,8 +28,7 @@ fn stream(buffer: &mut [u8]) -> Result<usize, Refusal> {
 #[test]
 fn line_and_text(rt: HostRuntime) -> Result<(), Fail> {
     let mut buffer = [99; 20];
-    let count = stream(&mut buffer).ok().ok_or("refused")?;
-    assert_eq!(rt; count, 19);
+    assert_eq!(rt; stream(&mut buffer), Ok(19));
     let expected = [
         1, 2, 0, 0, 0, 0, 4, 0, 100, 0, 100, 8, 5, 72, 69, 76, 76, 79, 10, 99,
     ];

@@ -1,81 +1,58 @@
 // Which statements are refused, and under which number.
-use statement::types::{Part, Statement, Tail};
+use crate::answers::{numbered, part};
+use statement::types::{Statement, Tail};
 use std::test::Fail;
 use writer::opening::{ask, make};
+use writer::types::Refusal;
 
-// A statement, and the number under which it is refused, 0 where it is accepted.
-#[derive(Clone, Copy)]
-struct Case<'a> {
-    statement: Statement<'a>,
-    number: u8,
-}
-
-// The number under which a picture's first statement is refused, or 0.
-fn refused(statement: Statement<'_>) -> u8 {
+// The answer to a picture's first statement.
+fn answer_to(statement: Statement<'_>) -> Result<(), Refusal> {
     let mut buffer = [0; 1024];
-    if ask(&buffer).is_err() {
-        return 19;
-    }
+    ask(&buffer)?;
     let writer = make(&mut buffer);
-    if writer.ask_picture().is_err() {
-        return 21;
-    }
+    writer.ask_picture()?;
     let mut picture = writer.open_picture();
     let answer = picture.write(statement);
     let _writer = picture.close();
-    match answer {
-        Ok(()) => 0,
-        Err(refusal) => refusal.number(),
-    }
+    answer
 }
 
-// Each case is answered as it says.
-fn check_cases(cases: &[Case<'_>]) -> Result<(), Fail> {
-    for case in cases {
-        let number = refused(case.statement);
-        if number != case.number {
-            return Err(Fail::new(number));
+// Each statement is answered as it says beside it.
+fn check_cases(cases: &[(Statement<'_>, Result<(), u8>)]) -> Result<(), Fail> {
+    for (statement, told) in cases {
+        if numbered(answer_to(*statement)) != *told {
+            return Err(Fail::new("answered otherwise"));
         }
     }
     Ok(())
 }
 
-fn of(statement: Statement<'_>, number: u8) -> Case<'_> {
-    Case { statement, number }
-}
-
-fn part(bytes: &[u8]) -> Part<'_> {
-    Part { at: 0, bytes }
-}
-
 #[test]
 fn texts() -> Result<(), Fail> {
     let text = [65; 513];
-    let cases = [
-        of(Statement::Text(part(&text[0..512])), 0),
-        of(Statement::Text(part(&text)), 4),
-        of(Statement::Escdev(255, part(&text)), 4),
-        of(Statement::Texto(part(&[0, 127])), 0),
-        of(Statement::Textr(part(&[128])), 5),
-        of(Statement::Escdev(0, part(&[255])), 0),
-    ];
-    check_cases(&cases)
+    check_cases(&[
+        (Statement::Text(part(&text[0..512])), Ok(())),
+        (Statement::Text(part(&text)), Err(4)),
+        (Statement::Escdev(255, part(&text)), Err(4)),
+        (Statement::Texto(part(&[0, 127])), Ok(())),
+        (Statement::Textr(part(&[128])), Err(5)),
+        (Statement::Escdev(0, part(&[255])), Ok(())),
+    ])
 }
 
 #[test]
 fn points() -> Result<(), Fail> {
-    let cases = [
-        of(Statement::Text(part(&[])), 0),
-        of(Statement::Movea(-16384, 16383), 0),
-        of(Statement::Drawa(0, 16384), 6),
-        of(Statement::Dota(-16385, 0), 6),
-        of(Statement::Mover(-32767, 32767), 0),
-        of(Statement::Drawr(0, -32768), 6),
-        of(Statement::Erase, 2),
-        of(Statement::Endpic, 2),
-        of(Statement::Subend, 2),
-    ];
-    check_cases(&cases)
+    check_cases(&[
+        (Statement::Text(part(&[])), Ok(())),
+        (Statement::Movea(-16384, 16383), Ok(())),
+        (Statement::Drawa(0, 16384), Err(6)),
+        (Statement::Dota(-16385, 0), Err(6)),
+        (Statement::Mover(-32767, 32767), Ok(())),
+        (Statement::Drawr(0, -32768), Err(6)),
+        (Statement::Erase, Err(2)),
+        (Statement::Endpic, Err(2)),
+        (Statement::Subend, Err(2)),
+    ])
 }
 
 #[test]
@@ -88,11 +65,10 @@ fn calls() -> Result<(), Fail> {
         as_name: Some(part(b"ABCDEFGHI")),
         at: Some((16384, 0)),
     };
-    let cases = [
-        of(Statement::Insts(part(b"ABCDEF78"), short), 0),
-        of(Statement::Insts(part(b"ABCDEF789"), long), 4),
-        of(Statement::Insts(part(b"a"), long), 7),
-        of(Statement::Insts(part(b"a"), short), 5),
-    ];
-    check_cases(&cases)
+    check_cases(&[
+        (Statement::Insts(part(b"ABCDEF78"), short), Ok(())),
+        (Statement::Insts(part(b"ABCDEF789"), long), Err(4)),
+        (Statement::Insts(part(b"a"), long), Err(7)),
+        (Statement::Insts(part(b"a"), short), Err(5)),
+    ])
 }
