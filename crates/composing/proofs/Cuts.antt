@@ -1,8 +1,16 @@
 -- Texts cut into lines, and lines without their fill.
-use Rattle.std.proofs.Common.{◌≡◌, ℕ, zero, suc, ◌+◌, ◌-◌, ◌<◌, ◌≤◌, min, Bool, true, false, cond, eqb, List, [], ◌∷◌, length, get_or, take, drop, sym, refl, ap, ◌∙◌, inl, inr, arith, length-drop}
+use Rattle.std.proofs.Common.{◌≡◌, ℕ, zero, suc, ◌+◌, ◌-◌, ◌<◌, ◌≤◌, min, Bool, true, false, cond, not, eqb, ltb, Some, None, List, [], ◌∷◌, length, take, drop, sym, refl, ap, ◌∙◌, inl, inr, arith, length-drop, one-add}
+use Rattle.std.specs.Option.{unwrap_or}
+use Rattle.std.specs.List.{position, position_or_len}
+use Rattle.std.proofs.lemmas.List.Sums.{prefix_len-le-length}
 use Rattle.std.proofs.lemmas.List.{take_all, drop_all}
-use Rattle.std.proofs.lemmas.Bool.{true≢false, cases_lt, ne_eqb}
-use Rattle.composing.specs.Lines.{on_first, lines_of, line_length, is_fill, bare}
+use Rattle.std.proofs.lemmas.Bool.{true≢false, cases_lt, ne_eqb, ltb-false}
+use Rattle.composing.specs.Lines.{on_first, lines_of, is_fill, bare}
+
+-- how long the first line is
+abbrev line_length : List ℕ → ℕ
+line_length [] = 0
+line_length (b ∷ bs) = cond (eqb b 10) 0 (suc (line_length bs))
 
 -- the first line and the others, by whether its first byte ends it
 by_first : (b : ℕ) (t : Bool) (bs : List ℕ)
@@ -41,13 +49,35 @@ cut_here : (t : List ℕ) → eqb (length t) 0 ≡ false → lines_of t ≡ take
 cut_here [] e = absurd (true≢false e)
 cut_here (b ∷ bs) e = first_cut b bs
 
-pub next_cut : (t : List ℕ) (r m : ℕ) → eqb (length t) 0 ≡ false → r ≡ line_length t → m ≡ min (r + 1) (length t) → lines_of t ≡ take (r - 0) t ∷ lines_of (take (length t - m) (drop m t))
-next_cut t r m e f g =
-    let h : line_length t ≡ r - 0 = omega arith in
-    cut_here t e ∙ ap (λ k. take (line_length t) t ∷ lines_of (drop (k + 1) t)) (sym f) ∙ ap (λ z. take (line_length t) t ∷ lines_of z) (sym (rest_min t (r + 1) m g)) ∙ ap (λ k. take k t ∷ lines_of (take (length t - m) (drop m t))) h
+line_length_is : (t : List ℕ) → line_length t ≡ position_or_len (λ b. eqb b 10) t
+line_length_is [] = refl
+line_length_is (b ∷ bs) = by (eqb b 10) (line_length_is bs)
+  where
+    by : (t : Bool) → line_length bs ≡ position_or_len (λ b. eqb b 10) bs
+        → cond t 0 (suc (line_length bs)) ≡ cond (not t) (1 + position_or_len (λ b. eqb b 10) bs) 0
+    by true e = refl
+    by false e = omega (arith, e)
 
-pub bare_here : (l : List ℕ) (i : ℕ) → (i < length l → is_fill (get_or l i 0) ≡ false) → bare (drop i l) ≡ drop i l
-bare_here [] zero h = refl
-bare_here (b ∷ bs) zero h = let p : 0 < length (b ∷ bs) = omega arith in ap (λ t. cond t (bare bs) (b ∷ bs)) (h p)
-bare_here [] (suc i) h = refl
-bare_here (b ∷ bs) (suc i) h = bare_here bs i (λ p. let q : suc i < length (b ∷ bs) = omega arith in h q)
+pub next_cut : (t : List ℕ) (r m : ℕ) → eqb (length t) 0 ≡ false → r ≡ position_or_len (λ b. eqb b 10) t → m ≡ min (r + 1) (length t) → lines_of t ≡ take r t ∷ lines_of (take (length t - m) (drop m t))
+next_cut t r m e f g =
+    cut_here t e ∙ ap (λ k. take k t ∷ lines_of (drop (k + 1) t)) (line_length_is t ∙ sym f) ∙ ap (λ z. take r t ∷ lines_of z) (sym (rest_min t (r + 1) m g))
+
+-- the place of the first that passes, or the end
+pub or_end : (p : ℕ → Bool) (xs : List ℕ) → unwrap_or (position p xs) (length xs) ≡ position_or_len p xs
+or_end p xs = by (ltb (position_or_len p xs) (length xs)) refl
+  where
+    by : (t : Bool) → ltb (position_or_len p xs) (length xs) ≡ t → unwrap_or (cond t (Some (position_or_len p xs)) None) (length xs) ≡ position_or_len p xs
+    by true e = refl
+    by false e =
+        let past = ltb-false (position_or_len p xs) (length xs) e in
+        let few = prefix_len-le-length (λ x. not (p x)) xs in
+        omega arith
+
+pub bare_at : (l : List ℕ) → bare l ≡ drop (position_or_len (λ b. not (is_fill b)) l) l
+bare_at [] = refl
+bare_at (b ∷ bs) = by (is_fill b) (bare_at bs)
+  where
+    by : (t : Bool) → bare bs ≡ drop (position_or_len (λ b. not (is_fill b)) bs) bs
+        → cond t (bare bs) (b ∷ bs) ≡ drop (cond (not (not t)) (1 + position_or_len (λ b. not (is_fill b)) bs) 0) (b ∷ bs)
+    by true e = let p = one-add (position_or_len (λ b. not (is_fill b)) bs) in e ∙ ap (λ k. drop k (b ∷ bs)) (sym p)
+    by false e = refl

@@ -1,6 +1,7 @@
 -- Lines, one by one, against the ledger of a whole text.
-use Rattle.std.proofs.Common.{◌≡◌, ℕ, ◌+◌, true, false, cond, List, [], ◌∷◌, ◌++◌, length, is_some, Some, None, Ok, Err, Option, Result, sym, refl, ap, ◌∙◌, add-zero, arith, length-append}
+use Rattle.std.proofs.Common.{◌≡◌, ℕ, ◌+◌, true, false, cond, List, [], ◌∷◌, ◌++◌, length, Some, None, Ok, Err, Option, Result, sym, refl, ap, ◌∙◌, add-zero, arith, length-append}
 use lib.Seq.{sets, length-sets}
+use Rattle.std.specs.Result.{result_err, is_err}
 use Rattle.std.proofs.lemmas.Bool.{true≢false, false≢true}
 use Rattle.statement.specs.Statements.{Said, erase, endpic, subhed, subend, act}
 use Rattle.spelling.specs.Spelling.{spell}
@@ -8,16 +9,14 @@ use Rattle.spelling.specs.Laws.{spell_all}
 use Rattle.writer.specs.declared.types.Opened.{Opened}
 use Rattle.writer.specs.declared.types.Opened.TheVariants as opened
 use Rattle.writer.specs.declared.types.Refusal.{Refusal}
-use Rattle.writer.specs.Answers.{write_answer, closing, passed}
+use Rattle.writer.specs.Answers.{write_answer, closing}
 use Rattle.writer.proofs.Judged.{writes}
 use Rattle.history.specs.Tales.{State, idle, busy, after}
 use Rattle.history.proofs.Tales.{sets_append, after_write, after_close, one_closing}
 use Rattle.composing.specs.declared.types.Failure.{Failure}
 use Rattle.composing.specs.declared.types.Failure.TheVariants as failure
-use Rattle.composing.specs.declared.types.Turn.{Turn}
-use Rattle.composing.specs.declared.types.Turn.TheVariants as turn
-use Rattle.composing.specs.Lines.{Line, saying, heard}
-use Rattle.composing.specs.Composed.{closes, Composed, stopped, preceded, answered, heeded, turned, composing, Ledger, ledger, end_ledger, on_ledger}
+use Rattle.composing.specs.Lines.{saying, saying_of}
+use Rattle.composing.specs.Composed.{closes, answer_to, refused_at, failure_at, Composed, stopped, preceded, answered, heeded, composing, Ledger, ledger, end_ledger, on_ledger, closing_ledger}
 
 ledger_more : (out : List ℕ) (used : ℕ) (s : Said) (c : Composed) → ledger (sets out used (spell s)) (used + length (spell s)) c ≡ ledger out used (preceded s c)
 ledger_more out used s c =
@@ -49,102 +48,91 @@ closes_closing (opened.Definition at) (subhed n h) e = absurd (false≢true e)
 closes_closing (opened.Definition at) subend e = refl
 closes_closing (opened.Definition at) (act a) e = absurd (false≢true e)
 
--- what the writer's answer to a statement makes of its line
-abbrev answer_turn : Result (Unit {0}) Refusal → ℕ → Turn
-answer_turn (Ok x) n = turn.On
-answer_turn (Err e) n = turn.Fail (failure.Refused e n)
-
--- one line, with something open
+-- one statement, with something open
 module _ (out : List ℕ) (o : Opened) (ns : List (List ℕ)) (used number : ℕ) (further : State → Composed) where
-  abbrev then_on : Line → Ledger
-  then_on h = ledger out used (heeded (length out) (busy o ns used) number h further)
+  abbrev pub stated : Said → Ledger
+  stated s = ledger out used (heeded (length out) (busy o ns used) number (saying s) further)
 
-  pub took_write : (s : Said) (r : Result (Unit {0}) Refusal) → closes o s ≡ false → r ≡ write_answer o used (length out) s
-      → ledger (sets out used (passed r (spell s))) (used + length (passed r (spell s))) (turned (answer_turn r number) (busy o ns (used + length (passed r (spell s)))) (closing o) further) ≡ then_on (saying s)
-  took_write s r c e = by r e ∙ ap (λ b. ledger out used (answered (cond b (Ok tt) (write_answer o used (length out) s)) (busy o ns used) number s further)) (sym c)
-    where
-      by : (r : Result (Unit {0}) Refusal) → r ≡ write_answer o used (length out) s
-          → ledger (sets out used (passed r (spell s))) (used + length (passed r (spell s))) (turned (answer_turn r number) (busy o ns (used + length (passed r (spell s)))) (closing o) further)
-          ≡ ledger out used (answered (write_answer o used (length out) s) (busy o ns used) number s further)
-      by (Ok x) e =
-          let w = writes o used (length out) s (sym e) in
-          ap (λ st. ledger (sets out used (spell s)) (used + length (spell s)) (further st)) (sym (after_write (busy o ns used) s w.unframed))
-          ∙ ledger_more out used s (further (after (busy o ns used) s))
-          ∙ ap (λ a. ledger out used (answered a (busy o ns used) number s further)) e
-      by (Err f) e =
-          ap (λ z. ledger out z (stopped (Some o) (Some (failure.Refused f number)))) (add-zero used)
-          ∙ ap (λ a. ledger out used (answered a (busy o ns used) number s further)) e
+  by_answer : (s : Said) (r : Result (Unit {0}) Refusal) → closes o s ≡ false → r ≡ write_answer o used (length out) s → ledger out used (answered r (busy o ns used) number s further) ≡ stated s
+  by_answer s r c e = ap (λ a. ledger out used (answered a (busy o ns used) number s further)) (e ∙ ap (λ b. cond b (Ok tt) (write_answer o used (length out) s)) (sym c))
 
--- closed, and no more written
-closed_at : (out out' : List ℕ) (used used' : ℕ) (o : Opened) (f : Option Failure) → out' ≡ sets out used (spell (closing o)) → used' ≡ used + 1 → end_ledger f out' used' ≡ ledger out used (stopped (Some o) f)
-closed_at out out' used used' o f e g =
-    let one = one_closing o in
-    let n : used' ≡ used + length (spell (closing o)) = omega arith in
-    (λ i. end_ledger f (e i) (n i)) ∙ ledger_closed out used o f
+  pub stated_written : (s : Said) → closes o s ≡ false → Ok tt ≡ write_answer o used (length out) s
+      → ledger (sets out used (spell s)) (used + length (spell s)) (further (busy o ns (used + length (spell s)))) ≡ stated s
+  stated_written s c e =
+      let w = writes o used (length out) s (sym e) in
+      ap (λ st. ledger (sets out used (spell s)) (used + length (spell s)) (further st)) (sym (after_write (busy o ns used) s w.unframed))
+      ∙ ledger_more out used s (further (after (busy o ns used) s))
+      ∙ by_answer s (Ok tt) c e
 
--- the line that is read next, where composing stands so
-module _ (out : List ℕ) (st : State) (number : ℕ) (l : List ℕ) (rest' : List (List ℕ)) where
-  -- the lines after it
-  abbrev pub further_on : State → Composed
-  further_on st' = composing (length out) st' number rest'
+  pub stated_refused : (s : Said) (f : Refusal) → closes o s ≡ false → Err f ≡ write_answer o used (length out) s → ledger out used (stopped (Some o) (Some (failure.Refused f number))) ≡ stated s
+  stated_refused s f c e = by_answer s (Err f) c e
 
-  pub on_line : (n : ℕ) (rest : List (List ℕ)) → rest ≡ l ∷ rest' → number ≡ n + 1 → ledger out st.filled (heeded (length out) st number (heard l) further_on) ≡ on_ledger None out st n rest
-  on_line n rest cut count =
-      ap (λ k. ledger out st.filled (heeded (length out) st k (heard l) (λ st'. composing (length out) st' k rest'))) count
-      ∙ ap (on_ledger None out st n) (sym cut)
+  pub stated_closing : (s : Said) → closes o s ≡ true → ledger out used (preceded (closing o) (further (after (busy o ns used) (closing o)))) ≡ stated s
+  stated_closing s c =
+      ap (λ z. ledger out used (preceded z (further (after (busy o ns used) z)))) (sym (closes_closing o s c))
+      ∙ ap (λ b. ledger out used (answered (cond b (Ok tt) (write_answer o used (length out) s)) (busy o ns used) number s further)) (sym c)
 
-  -- something is opened by it
-  pub all_open : (s : Said) (o o' : Opened) (ns' ns'' : List (List ℕ)) (out' : List ℕ) (used' : ℕ) → after st s ≡ busy o ns' (st.filled + length (spell s))
-      → out' ≡ sets out st.filled (spell s) → o' ≡ o → ns'' ≡ ns' → used' ≡ st.filled + length (spell s)
-      → preceded s (further_on (after st s)) ≡ heeded (length out) st number (heard l) further_on
-      → on_ledger None out' (busy o' ns'' used') number rest' ≡ ledger out st.filled (heeded (length out) st number (heard l) further_on)
-  all_open s o o' ns' ns'' out' used' a e p q g begins =
-      (λ i. on_ledger None (e i) (busy (p i) (q i) (g i)) number rest')
-      ∙ ap (λ m. ledger (sets out st.filled (spell s)) (st.filled + length (spell s)) (composing m (busy o ns' (st.filled + length (spell s))) number rest')) (length-sets out st.filled (spell s))
-      ∙ ap (λ z. ledger (sets out st.filled (spell s)) (st.filled + length (spell s)) (further_on z)) (sym a)
-      ∙ ledger_more out st.filled s (further_on (after st s)) ∙ ap (ledger out st.filled) begins
+-- the book of what goes on after a statement
+pub goes_on : {out out' : List ℕ} {o o' : Opened} {ns ns' : List (List ℕ)} {used used' : ℕ} (size number : ℕ) (rest : List (List ℕ)) → out' ≡ out → length out ≡ size → o' ≡ o → ns' ≡ ns → used' ≡ used
+    → on_ledger None out' (busy o' ns' used') number rest ≡ ledger out used (composing size (busy o ns used) number rest)
+goes_on size number rest e z p q g = λ i. ledger (e i) (g i) (composing ((ap length e ∙ z) i) (busy (p i) (q i) (g i)) number rest)
 
--- the line that is read next, with something open before and after it
-module _ (out out' : List ℕ) (o o' : Opened) (ns ns' : List (List ℕ)) (used used' n number : ℕ) (l : List ℕ) (rest rest' : List (List ℕ)) (cut : rest ≡ l ∷ rest') (count : number ≡ n + 1) where
-  abbrev going : State → Composed
-  going st' = composing (length out) st' number rest'
+-- what is open is closed
+pub closed_ledger : (out out' : List ℕ) (o : Opened) (ns ns' : List (List ℕ)) (used used' number : ℕ) (rest : List (List ℕ)) (f : Option Failure)
+    → out' ≡ sets out used (spell (closing o)) → ns' ≡ ns → used' ≡ used + 1
+    → on_ledger f out' (idle ns' used') number rest ≡ closing_ledger f out o ns used number rest
+closed_ledger out out' o ns ns' used used' number rest f e q g = by f
+  where
+    one : length (spell (closing o)) ≡ 1
+    one = one_closing o
 
-  abbrev Turns : Turn → Type 0
-  Turns t = (further : State → Composed) → ledger out' used' (turned t (busy o' ns' used') (closing o') further) ≡ ledger out used (heeded (length out) (busy o ns used) number (heard l) further)
+    at : used' ≡ used + length (spell (closing o))
+    at = let n = one in omega arith
 
-  line_on : ledger out used (heeded (length out) (busy o ns used) number (heard l) going) ≡ on_ledger None out (busy o ns used) n rest
-  line_on = on_line out (busy o ns used) number l rest' n rest cut count
+    by : (f : Option Failure) → on_ledger f out' (idle ns' used') number rest ≡ closing_ledger f out o ns used number rest
+    by None =
+        let end = spell (closing o) in
+        (λ i. on_ledger None (e i) (idle (q i) (at i)) number rest)
+        ∙ ap (λ m. ledger (sets out used end) (used + length end) (composing m (idle ns (used + length end)) number rest)) (length-sets out used end)
+        ∙ ap (λ z. ledger (sets out used end) (used + length end) (composing (length out) z number rest)) (sym (after_close o ns used))
+        ∙ ledger_more out used (closing o) (composing (length out) (after (busy o ns used) (closing o)) number rest)
+    by (Some x) = (λ i. end_ledger (Some x) (e i) (at i)) ∙ ledger_closed out used o (Some x)
 
-  pub fill_on : Turns turn.On → on_ledger None out' (busy o' ns' used') number rest' ≡ on_ledger None out (busy o ns used) n rest
-  fill_on t =
-      let size : length out' ≡ length out = ap (λ z. z.size) (t going) in
-      ap (λ m. ledger out' used' (composing m (busy o' ns' used') number rest')) size ∙ t going ∙ line_on
+-- one statement, with nothing open
+module _ (out : List ℕ) (ns : List (List ℕ)) (used number : ℕ) (rest : List (List ℕ)) (s : Said) where
+  abbrev pub begun : Ledger
+  begun = ledger out used (heeded (length out) (idle ns used) number (saying s) (λ st. composing (length out) st number rest))
 
-  pub fill_close : Turns turn.Close → (out'' : List ℕ) (ns'' : List (List ℕ)) (used'' : ℕ) → out'' ≡ sets out' used' (spell (closing o')) → ns'' ≡ ns' → used'' ≡ used' + 1
-      → on_ledger None out'' (idle ns'' used'') number rest' ≡ on_ledger None out (busy o ns used) n rest
-  fill_close t out'' ns'' used'' e f g =
-      let size : length out' ≡ length out = ap (λ z. z.size) (t going) in
-      let one = one_closing o' in
-      let end = spell (closing o') in
-      let u : used'' ≡ used' + length end = omega arith in
-      (λ i. on_ledger None (e i) (idle (f i) (u i)) number rest')
-      ∙ ap (λ m. ledger (sets out' used' end) (used' + length end) (composing m (idle ns' (used' + length end)) number rest')) (length-sets out' used' end ∙ size)
-      ∙ ap (λ z. ledger (sets out' used' end) (used' + length end) (going z)) (sym (after_close o' ns' used'))
-      ∙ ledger_more out' used' (closing o') (going (after (busy o' ns' used') (closing o'))) ∙ t going ∙ line_on
+  pub begun_opened : (out' : List ℕ) (o' : Opened) (ns' : List (List ℕ)) (used' : ℕ) → answer_to (length out) (idle ns used) None s ≡ Ok tt → out' ≡ sets out used (spell s) → busy o' ns' used' ≡ after (idle ns used) s
+      → on_ledger None out' (busy o' ns' used') number rest ≡ begun
+  begun_opened out' o' ns' used' a e b =
+      (λ i. on_ledger None (e i) (b i) number rest)
+      ∙ ap (λ m. ledger (sets out used (spell s)) (used + length (spell s)) (composing m (after (idle ns used) s) number rest)) (length-sets out used (spell s))
+      ∙ ledger_more out used s (composing (length out) (after (idle ns used) s) number rest)
+      ∙ ap (λ r. ledger out used (answered r (idle ns used) number s (λ st. composing (length out) st number rest))) (sym a)
 
-  pub fill_fail : (f : Failure) → Turns (turn.Fail f) → (out'' : List ℕ) (used'' : ℕ) → out'' ≡ sets out' used' (spell (closing o')) → used'' ≡ used' + 1
-      → end_ledger (Some f) out'' used'' ≡ on_ledger None out (busy o ns used) n rest
-  fill_fail f t out'' used'' e g = closed_at out' out'' used' used'' o' (Some f) e g ∙ t going ∙ line_on
+  pub begun_refused : (f : Refusal) → answer_to (length out) (idle ns used) None s ≡ Err f → end_ledger (Some (failure.Refused f number)) out used ≡ begun
+  begun_refused f a =
+      ledger_end out used (Some (failure.Refused f number)) ∙ ap (λ r. ledger out used (answered r (idle ns used) number s (λ st. composing (length out) st number rest))) (sym a)
 
--- all lines are read
-pub fill_end : (out out' : List ℕ) (o : Opened) (ns : List (List ℕ)) (used used' n : ℕ) (rest : List (List ℕ)) → rest ≡ [] → out' ≡ sets out used (spell (closing o)) → used' ≡ used + 1
-    → end_ledger (Some (failure.Unfinished n)) out' used' ≡ on_ledger None out (busy o ns used) n rest
-fill_end out out' o ns used used' n rest none e g = closed_at out out' used used' o (Some (failure.Unfinished n)) e g ∙ ap (on_ledger None out (busy o ns used) n) (sym none)
+-- words of a line that opens nothing
+none_some : (f : Failure) → ◌≡◌ {A = Option Failure} None (Some f) → ⊥
+none_some f e = let z : ◌≡◌ {A = ℕ} 0 1 = cc in omega arith
 
-pub failed_end : (f : Option Failure) (out : List ℕ) (st : State) (n : ℕ) (rest : List (List ℕ)) → is_some f ≡ true → end_ledger f out st.filled ≡ on_ledger f out st n rest
-failed_end None out st n rest e = absurd (false≢true e)
-failed_end (Some f) out st n rest e = refl
+pub begun_failed : (out : List ℕ) (ns : List (List ℕ)) (used number : ℕ) (rest : List (List ℕ)) (ws : Option Said) (f : Failure) → failure_at (length out) (idle ns used) ws number ≡ Some f
+    → end_ledger (Some f) out used ≡ ledger out used (heeded (length out) (idle ns used) number (saying_of ws) (λ st. composing (length out) st number rest))
+begun_failed out ns used number rest None f e = ap (λ z. end_ledger z out used) (sym e) ∙ ledger_end out used (Some (failure.Unreadable number))
+begun_failed out ns used number rest (Some s) f e = by (answer_to (length out) (idle ns used) None s) refl e
+  where
+    by : (r : Result (Unit {0}) Refusal) → answer_to (length out) (idle ns used) None s ≡ r → refused_at r number ≡ Some f → end_ledger (Some f) out used ≡ begun out ns used number rest s
+    by (Ok x) a e = absurd (none_some f e)
+    by (Err g) a e = ap (λ z. end_ledger z out used) (sym e) ∙ begun_refused out ns used number rest s g a
 
-pub not_failed : (f : Option Failure) → is_some f ≡ false → f ≡ None
-not_failed None e = refl
-not_failed (Some f) e = absurd (true≢false e)
+-- a composing that has failed, and one that goes on
+pub failed_end : (r : Result (Unit {0}) Failure) (out : List ℕ) (st : State) (n : ℕ) (rest : List (List ℕ)) → is_err r ≡ true → end_ledger (result_err r) out st.filled ≡ on_ledger (result_err r) out st n rest
+failed_end (Ok x) out st n rest e = absurd (false≢true e)
+failed_end (Err f) out st n rest e = refl
+
+pub went_on : (r : Result (Unit {0}) Failure) (out : List ℕ) (st : State) (n : ℕ) (rest : List (List ℕ)) → is_err r ≡ false → on_ledger None out st n rest ≡ on_ledger (result_err r) out st n rest
+went_on (Ok x) out st n rest e = refl
+went_on (Err f) out st n rest e = absurd (true≢false e)

@@ -4,7 +4,7 @@ use Rattle.statement.specs.declared.types.Header.{Header}
 use Rattle.statement.specs.declared.types.Header.TheVariants as header
 use Rattle.statement.specs.declared.types.Standing.TheVariants.{Outside}
 use Rattle.statement.specs.Statements.{Said, erase, endpic, subhed, subend, act}
-use Rattle.spelling.specs.Spelling.{header_byte}
+use Rattle.statement.specs.Reading.{header_byte}
 use Rattle.spelling.specs.Laws.{standing_after}
 use Rattle.writer.specs.declared.types.Opened.{Opened}
 use Rattle.writer.specs.declared.types.Refusal.{Refusal}

@@ -2,23 +2,19 @@
 use Rattle.std.specs.Prelude.{◌≡◌, ℕ, ◌+◌, Bool, true, false, cond, List, [], ◌∷◌, length, take, Some, None, Ok, Err, Option, Result}
 use Rattle.std.proofs.lemmas.List.Edits.{sets}
 use Rattle.statement.specs.declared.types.Fault.TheVariants as fault
+use Rattle.wording.specs.Words.{worded}
 use Rattle.statement.specs.Statements.{Said, erase, endpic, subhed, subend, act}
-use Rattle.spelling.specs.Spelling.{header_byte}
+use Rattle.statement.specs.Reading.{header_byte}
 use Rattle.spelling.specs.Laws.{spell_all}
 use Rattle.writer.specs.declared.types.Opened.{Opened}
 use Rattle.writer.specs.declared.types.Opened.TheVariants as opened
 use Rattle.writer.specs.declared.types.Refusal.{Refusal}
 use Rattle.writer.specs.declared.types.Refusal.TheVariants as refusal
-use Rattle.writer.specs.Answers.{make_answer, write_answer, picture_answer, definition_answer, heading}
-use Rattle.history.specs.Tales.{State, idle, after, ending}
+use Rattle.writer.specs.Answers.{make_answer, write_answer, picture_answer, definition_answer, closing}
+use Rattle.history.specs.Tales.{State, idle, busy, after, ending}
 use Rattle.composing.specs.declared.types.Failure.{Failure}
 use Rattle.composing.specs.declared.types.Failure.TheVariants as failure
-use Rattle.composing.specs.declared.types.Heading.{Heading}
-use Rattle.composing.specs.declared.types.Opening.{Opening}
-use Rattle.composing.specs.declared.types.Opening.TheVariants as opening
-use Rattle.composing.specs.declared.types.Turn.{Turn}
-use Rattle.composing.specs.declared.types.Turn.TheVariants as turn
-use Rattle.composing.specs.Lines.{Line, silent, unreadable, saying, lines_of, heard}
+use Rattle.composing.specs.Lines.{Line, silent, unreadable, saying, saying_of, lines_of, heard}
 
 -- what may not come here
 abbrev pub misplaced : Result (Unit {0}) Refusal
@@ -115,30 +111,6 @@ ledger out used c = record {
   failed = c.failed;
 }
 
--- what one line turns a composing with something open into: it goes on, the slip is to be closed, or it fails
-abbrev pub turned : Turn → State → Said → (State → Composed) → Composed
-turned turn.On st end further = further st
-turned turn.Close st end further = preceded end (further (after st end))
-turned (turn.Fail f) st end further = stopped st.inside (Some f)
-
--- the statement that opens a definition under this heading
-abbrev pub headed : Heading → Said
-headed h = heading (take h.count h.name) h.header
-
--- what one line turns a composing with nothing open into
-abbrev pub began : Opening → State → (State → Composed) → Composed
-began opening.Nothing st further = further st
-began opening.Picture st further = preceded erase (further (after st erase))
-began (opening.Definition h) st further = preceded (headed h) (further (after st (headed h)))
-began (opening.Fail f) st further = stopped st.inside (Some f)
-
--- what is to be opened was asked for
-abbrev pub Asked : Opening → ℕ → List (List ℕ) → ℕ → Type 0
-Asked opening.Nothing size ns used = Unit {0}
-Asked opening.Picture size ns used = picture_answer used size ≡ Ok tt
-Asked (opening.Definition h) size ns used = definition_answer ns used size (take h.count h.name) h.header ≡ Ok tt
-Asked (opening.Fail f) size ns used = Unit {0}
-
 -- the ledger of a composing that is over, with nothing left open
 abbrev pub end_ledger : Option Failure → List ℕ → ℕ → Ledger
 end_ledger f out used = record { bytes = out; reach = used; size = length out; failed = f }
@@ -147,3 +119,23 @@ end_ledger f out used = record { bytes = out; reach = used; size = length out; f
 abbrev pub on_ledger : Option Failure → List ℕ → State → ℕ → List (List ℕ) → Ledger
 on_ledger None out st n ls = ledger out st.filled (composing (length out) st n ls)
 on_ledger (Some f) out st n ls = end_ledger (Some f) out st.filled
+
+-- a composing whose next line that says something has these words; so many lines are read by then
+abbrev pub worded_next : Option (List ℕ) → ℕ → State → ℕ → List (List ℕ) → Composed
+worded_next None size st n ls = composing size st n []
+worded_next (Some ws) size st n ls = heeded size st n (saying_of (worded ws)) (λ st'. composing size st' n ls)
+
+-- the failure of an answer at a line, if it is one
+abbrev pub refused_at : Result (Unit {0}) Refusal → ℕ → Option Failure
+refused_at (Ok x) n = None
+refused_at (Err e) n = Some (failure.Refused e n)
+
+-- why a line opens nothing, if so, by the statement that it says
+abbrev pub failure_at : ℕ → State → Option Said → ℕ → Option Failure
+failure_at size st None n = Some (failure.Unreadable n)
+failure_at size st (Some s) n = refused_at (answer_to size st None s) n
+
+-- the ledger of a composing that has come to a closing, or has failed, with this still open
+abbrev pub closing_ledger : Option Failure → List ℕ → Opened → List (List ℕ) → ℕ → ℕ → List (List ℕ) → Ledger
+closing_ledger None out o ns used n ls = ledger out used (preceded (closing o) (composing (length out) (after (busy o ns used) (closing o)) n ls))
+closing_ledger (Some f) out o ns used n ls = ledger out used (stopped (Some o) (Some f))

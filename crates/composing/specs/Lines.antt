@@ -1,11 +1,8 @@
 -- The lines of a description, and what each says.
-use Rattle.std.specs.Prelude.{◌≡◌, ℕ, suc, ◌+◌, ◌<◌, ◌≤◌, Bool, cond, ◌&&◌, ◌||◌, List, [], ◌∷◌, length, Some, None, codes, Option, ◌==◌, nat_le}
+use Rattle.std.specs.Prelude.{◌≡◌, ℕ, ◌+◌, ◌<◌, ◌≤◌, Bool, cond, ◌&&◌, ◌||◌, List, [], ◌∷◌, length, Some, None, codes, Option, ◌==◌, nat_le}
 use Rattle.std.specs.Str.{bytes_eq}
 use Rattle.statement.specs.Statements.{Said}
-use Rattle.statement.specs.Views.{said_by}
 use Rattle.wording.specs.Words.{worded}
-use Rattle.composing.specs.declared.types.Heard.{Heard}
-use Rattle.composing.specs.declared.types.Heard.TheVariants as came
 
 -- one byte more at the front of the first line
 abbrev pub on_first : ℕ → List (List ℕ) → List (List ℕ)
@@ -16,11 +13,6 @@ on_first b (l ∷ ls) = (b ∷ l) ∷ ls
 abbrev pub lines_of : List ℕ → List (List ℕ)
 lines_of [] = []
 lines_of (b ∷ bs) = cond (b == 10) ([] ∷ lines_of bs) (on_first b (lines_of bs))
-
--- how long the first line is
-abbrev pub line_length : List ℕ → ℕ
-line_length [] = 0
-line_length (b ∷ bs) = cond (b == 10) 0 (suc (line_length bs))
 
 -- a digit or a space
 abbrev pub is_fill : ℕ → Bool
@@ -47,11 +39,6 @@ saying_of (Some s) = saying s
 
 abbrev pub heard : List ℕ → Line
 heard l = cond (is_silent (bare l)) silent (saying_of (worded (bare l)))
-
-abbrev pub heard_by : Heard → Line
-heard_by came.Silent = silent
-heard_by came.Unreadable = unreadable
-heard_by (came.Said s) = saying (said_by s)
 
 -- the next line of what is left of a text, if there is one, with what is left after it and the lines read
 abbrev pub NextLine : Option (List ℕ) → List ℕ → ℕ → List ℕ → ℕ → Type 0

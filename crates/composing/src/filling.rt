@@ -1,17 +1,17 @@
 // Composing with a picture or a definition open.
-ghost use Rattle.std.specs.Prelude.{◌≡◌, ◌≤◌, length, Some, None, Ok};
+ghost use Rattle.std.specs.Prelude.{◌≡◌, ◌≤◌, length, None};
+ghost use Rattle.std.specs.Result.{result_err};
 ghost use Rattle.statement.specs.Views.{said_by};
-ghost use Rattle.writer.specs.Answers.{closing};
 ghost use Rattle.writer.specs.Names.{known};
-ghost use Rattle.history.specs.Tales.{State, idle, busy};
-ghost use Rattle.composing.specs.Lines.{lines_of, heard};
-ghost use Rattle.composing.specs.Composed.{Composed, heeded, turned, ledger, on_ledger, closes};
+ghost use Rattle.history.specs.Tales.{idle, busy};
+ghost use Rattle.composing.specs.Lines.{lines_of};
+ghost use Rattle.composing.specs.Composed.{closes, on_ledger, closing_ledger};
 
-use crate::hearing::hear;
-use crate::script::Script;
-use crate::types::{Failure, Heard, Turn};
+use crate::outcome::Outcome;
+use crate::script::{Script, read};
+use crate::types::Failure;
 use statement::types::Statement;
-use writer::state::{Slip, Writer};
+use writer::state::Slip;
 use writer::types::Opened;
 
 // Whether a statement closes what is open.
@@ -25,52 +25,34 @@ fn closes(opened: Opened, statement: &Statement<'_>) -> bool
     }
 }
 
-// Takes the line of this number: writes what it says, if it is to be written.
-fn take<'a>(slip: &mut Slip<'_>, line: &'a [u8], number: usize, scratch: &'a mut [u8]) -> Turn
-    requires { length line.now ≤ length scratch.old }
-    ensures turn { (further : State → Composed) → ledger slip.new.buffer.now slip.new.used (turned result (busy slip.new.opened (known slip.new.names) slip.new.used) (closing slip.new.opened) further) ≡ ledger slip.old.buffer.now slip.old.used (heeded (length slip.old.buffer.now) (busy slip.old.opened (known slip.old.names) slip.old.used) number (heard line.now) further) }
+// Writes statements on a slip, up to the one that is to close it.
+fn write_all(slip: &mut Slip<'_>, script: &mut Script<'_>) -> Result<(), Failure>
+    ensures shorter { length script.new.rest.now ≤ length script.old.rest.now }
+    ensures ledger { closing_ledger (result_err result) slip.new.buffer.now slip.new.opened (known slip.new.names) slip.new.used script.new.line (lines_of script.new.rest.now) ≡ on_ledger None slip.old.buffer.now (busy slip.old.opened (known slip.old.names) slip.old.used) script.old.line (lines_of script.old.rest.now) }
     ensures tied { slip.new.buffer.ghost_name ≡ slip.old.buffer.ghost_name }
 {
-    match hear(line, scratch) {
-        Heard::Silent => Turn::On,
-        Heard::Unreadable => Turn::Fail(Failure::Unreadable { line: number }),
-        Heard::Said(statement) => {
-            if closes(slip.opened(), &statement) {
-                return Turn::Close;
-            }
-            match slip.write(statement) {
-                Ok(()) => Turn::On,
-                Err(refusal) => Turn::Fail(Failure::Refused {
-                    refusal,
-                    line: number,
-                }),
-            }
+    while let Some(words) = script.next_words() {
+        let line = script.line;
+        let statement = read(words, line, script.scratch)?;
+        if closes(slip.opened(), &statement) {
+            return Ok(());
+        }
+        if let Err(refusal) = slip.write(statement) {
+            return Err(Failure::Refused { refusal, line });
         }
     }
+    Err(Failure::Unfinished { line: script.line })
 }
 
-// Composes lines into what is open, up to the one that closes it; where one fails or all are read, closes it too.
-pub(crate) fn fill<'a>(
-    mut slip: Slip<'a>,
-    script: &mut Script<'_>,
-    scratch: &mut [u8],
-) -> Writer<'a>
-    requires fresh { script.old.failure ≡ None }
-    requires room { length script.old.rest.now ≤ length scratch.old }
+// Writes statements on a slip and closes it, by the one that closes it, or where one fails or all are read.
+pub(crate) fn fill<'a>(mut slip: Slip<'a>, script: &mut Script<'_>) -> Outcome<'a>
     ensures shorter { length script.new.rest.now ≤ length script.old.rest.now }
-    ensures ledger { on_ledger script.new.failure result.buffer.now (idle (known result.names) result.used) script.new.line (lines_of script.new.rest.now) ≡ on_ledger None slip.entry.buffer.now (busy slip.entry.opened (known slip.entry.names) slip.entry.used) script.old.line (lines_of script.old.rest.now) }
-    ensures tied { result.buffer.ghost_name ≡ slip.entry.buffer.ghost_name }
+    ensures ledger { on_ledger (result_err result.result) result.writer.buffer.now (idle (known result.writer.names) result.writer.used) script.new.line (lines_of script.new.rest.now) ≡ on_ledger None slip.entry.buffer.now (busy slip.entry.opened (known slip.entry.names) slip.entry.used) script.old.line (lines_of script.old.rest.now) }
+    ensures tied { result.writer.buffer.ghost_name ≡ slip.entry.buffer.ghost_name }
 {
-    while let Some(line) = script.next() {
-        match take(&mut slip, line, script.line, scratch) {
-            Turn::On => {}
-            Turn::Close => return slip.close(),
-            Turn::Fail(failure) => {
-                script.failure = Some(failure);
-                return slip.close();
-            }
-        }
+    let result = write_all(&mut slip, script);
+    Outcome {
+        writer: slip.close(),
+        result,
     }
-    script.failure = Some(Failure::Unfinished { line: script.line });
-    slip.close()
 }

@@ -1,12 +1,11 @@
 // Streams made from their descriptions in words.
 #![tactic(auto)]
 
-mod advance;
 pub mod compose;
 mod filling;
-mod hearing;
 mod lines;
 mod opening;
+mod outcome;
 pub mod report;
 mod script;
 pub mod types;

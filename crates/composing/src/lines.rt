@@ -1,52 +1,51 @@
-// The lines of a description.
-ghost use Rattle.std.specs.Prelude.{◌≡◌, ◌≤◌, length, None};
-ghost use Rattle.std.specs.Option.{option_map};
-ghost use Rattle.composing.specs.Lines.{line_length, NextLine};
-
-use crate::script::Script;
+// Where a line ends, what its words are, and whether they say nothing.
+ghost use Rattle.std.specs.Prelude.{◌≡◌, ◌≤◌, ◌==◌, not, length, position, codes};
+ghost use Rattle.std.specs.Str.{bytes_eq};
+ghost use Rattle.composing.specs.Lines.{is_fill, bare, is_silent};
 
 // The byte that ends a line.
-const END: u8 = 10;
+const END: u8 = b'\n';
 
-// The length of the first line of a text.
-fn first_line(text: &[u8]) -> usize
-    ensures within { result ≤ length text.now }
-    ensures value { result ≡ line_length text.now }
+// Where the first line of a text ends, if it is ended.
+pub(crate) fn line_end(text: &[u8]) -> Option<usize>
+    ensures { result ≡ position (λ b. b == 10) text.now }
 {
-    let mut end = 0;
-    while end < text.len() && text[end] != END {
-        end += 1;
-    }
-    end
+    text.iter().position(|b| *b == END)
 }
 
-impl<'a> Script<'a> {
-    // A description that is to be read.
-    pub(crate) fn new(text: &'a [u8]) -> Script<'a>
-        ensures rest { result.rest.now ≡ text.now }
-        ensures line { result.line ≡ 0 }
-        ensures failure { result.failure ≡ None }
-    {
-        Script {
-            rest: text,
-            line: 0,
-            failure: None,
-        }
-    }
+// Whether a byte before the words of a line is of no account.
+fn is_fill(b: u8) -> bool
+    ensures { result ≡ is_fill b }
+{
+    matches!(b, b' ' | b'0'..=b'9')
+}
 
-    // The next line, if there is one.
-    pub(crate) fn next(&mut self) -> Option<&'a [u8]>
-        ensures failure { self.new.failure ≡ self.old.failure }
-        ensures next { NextLine (option_map (λ x. x.now) result) self.old.rest.now self.old.line self.new.rest.now self.new.line }
-    {
-        let rest = self.rest;
-        if rest.is_empty() {
-            return None;
-        }
-        let end = first_line(rest);
-        let after = (end + 1).min(rest.len());
-        self.rest = &rest[after..];
-        self.line += 1;
-        Some(&rest[0..end])
-    }
+// Where the words of a line begin, if there are any.
+fn words_start(line: &[u8]) -> Option<usize>
+    ensures { result ≡ position (λ b. not (is_fill b)) line.now }
+{
+    line.iter().position(|b| !is_fill(*b))
+}
+
+// A line without the fill before its words.
+pub(crate) fn bare(line: &[u8]) -> &[u8]
+    ensures value { result.now ≡ bare line.now }
+    ensures shorter { length result.now ≤ length line.now }
+{
+    &line[words_start(line).unwrap_or(line.len())..]
+}
+
+// Whether words are the one by which a listing ends.
+fn is_last(words: &[u8]) -> bool
+    ensures { result ≡ bytes_eq words.now (codes "whole") }
+{
+    let last: &[u8] = b"whole";
+    words == last
+}
+
+// Whether words say nothing.
+pub(crate) fn is_silent(words: &[u8]) -> bool
+    ensures { result ≡ is_silent words.now }
+{
+    words.is_empty() || is_last(words)
 }

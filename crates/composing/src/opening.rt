@@ -1,94 +1,59 @@
 // Composing with nothing open.
-ghost use Rattle.std.specs.Prelude.{◌≡◌, ◌≤◌, length, take};
-ghost use Rattle.statement.specs.Statements.{subhed};
+ghost use Rattle.std.specs.Prelude.{◌≡◌, ◌≤◌, length, Some, None, Ok, Err, MatchResult};
+ghost use Rattle.std.proofs.lemmas.List.Edits.{sets};
 ghost use Rattle.statement.specs.Views.{said_by};
-ghost use Rattle.spelling.specs.Spelling.{header_byte};
+ghost use Rattle.spelling.specs.Spelling.{spell};
+ghost use Rattle.wording.specs.Words.{worded};
 ghost use Rattle.writer.specs.Names.{known};
-ghost use Rattle.history.specs.Tales.{State, idle};
-ghost use Rattle.composing.specs.Lines.{heard, saying};
-ghost use Rattle.composing.specs.Composed.{Composed, heeded, began, Asked};
+ghost use Rattle.history.specs.Tales.{idle, busy, after};
+ghost use Rattle.composing.specs.Composed.{answer_to, failure_at};
 
-use crate::hearing::hear;
-use crate::types::{Failure, Heading, Heard, Opening};
-use statement::types::{Fault, Header, Statement};
-use writer::state::Writer;
+use crate::script::read;
+use crate::types::Failure;
+use statement::types::{Fault, Statement};
+use writer::state::{Slip, Writer};
 use writer::types::Refusal;
 
-// The byte of a header.
-fn header_byte(header: Header) -> u8
-    ensures { result ≡ header_byte header }
+// Whether a statement opens something.
+fn ask(writer: &Writer<'_>, statement: &Statement<'_>) -> Result<(), Refusal>
+    ensures { result ≡ answer_to (length writer.now.buffer.now) (idle (known writer.now.names) writer.now.used) None (said_by statement.now) }
 {
-    match header {
-        Header::Simple => 0x80,
-        Header::Full => 0x40,
-        Header::Both => 0xC0,
+    match *statement {
+        Statement::Erase => writer.ask_picture(),
+        Statement::Subhed(name, header) => writer.ask_definition(name.bytes, header.into()),
+        _ => Err(Refusal::Statement(Fault::Misplaced)),
     }
 }
 
-// The heading of a definition with a short name.
-fn heading_of(name: &[u8], header: u8) -> Heading
-    requires { length name.now ≤ 8 }
-    ensures name { take result.count result.name ≡ name.now }
-    ensures header { result.header ≡ header }
+// Opens what a statement opens that was asked for.
+pub(crate) fn open<'a>(writer: Writer<'a>, statement: Statement<'_>) -> Slip<'a>
+    requires { answer_to (length writer.buffer.now) (idle (known writer.names) writer.used) None (said_by statement) ≡ Ok tt }
+    ensures bytes { result.buffer.now ≡ sets writer.entry.buffer.now writer.entry.used (spell (said_by statement.entry)) }
+    ensures state { busy result.opened (known result.names) result.used ≡ after (idle (known writer.entry.names) writer.entry.used) (said_by statement.entry) }
+    ensures tied { result.buffer.ghost_name ≡ writer.entry.buffer.ghost_name }
 {
-    let mut characters = [0; 8];
-    let count = name.len();
-    characters[0..count].copy_from_slice(name);
-    Heading {
-        name: characters,
-        count,
-        header,
+    match statement {
+        Statement::Subhed(name, header) => writer.open_definition(name.bytes, header.into()),
+        // only ERASE opens besides
+        _ => writer.open_picture(),
     }
 }
 
-// What the heading of a definition does at the line of this number.
-fn define(writer: &Writer<'_>, name: &[u8], header: Header, number: usize) -> Opening
-    ensures asked { Asked result (length writer.now.buffer.now) (known writer.now.names) writer.now.used }
-    ensures begins { (further : State → Composed) → began result (idle (known writer.now.names) writer.now.used) further ≡ heeded (length writer.now.buffer.now) (idle (known writer.now.names) writer.now.used) number (saying (subhed name.now header)) further }
-{
-    let header = header_byte(header);
-    match writer.ask_definition(name, header) {
-        Ok(()) => Opening::Definition(heading_of(name, header)),
-        Err(refusal) => Opening::Fail(Failure::Refused {
-            refusal,
-            line: number,
-        }),
-    }
-}
-
-// What a statement does at the line of this number.
-fn admit(writer: &Writer<'_>, statement: Statement<'_>, number: usize) -> Opening
-    ensures asked { Asked result (length writer.now.buffer.now) (known writer.now.names) writer.now.used }
-    ensures begins { (further : State → Composed) → began result (idle (known writer.now.names) writer.now.used) further ≡ heeded (length writer.now.buffer.now) (idle (known writer.now.names) writer.now.used) number (saying (said_by statement.entry)) further }
-{
-    let refused = match statement {
-        Statement::Erase => match writer.ask_picture() {
-            Ok(()) => return Opening::Picture,
-            Err(refusal) => refusal,
-        },
-        Statement::Subhed(name, header) => return define(writer, name.bytes, header, number),
-        _ => Refusal::Statement(Fault::Misplaced),
-    };
-    Opening::Fail(Failure::Refused {
-        refusal: refused,
-        line: number,
-    })
-}
-
-// What the line of this number does where nothing is open.
-pub(crate) fn begin<'a>(
+// The statement that the words of the line of this number say, if it opens something.
+pub(crate) fn read_opening<'a>(
     writer: &Writer<'_>,
-    line: &'a [u8],
-    number: usize,
+    words: &'a [u8],
+    line: usize,
     scratch: &'a mut [u8],
-) -> Opening
-    requires { length line.now ≤ length scratch.old }
-    ensures asked { Asked result (length writer.now.buffer.now) (known writer.now.names) writer.now.used }
-    ensures begins { (further : State → Composed) → began result (idle (known writer.now.names) writer.now.used) further ≡ heeded (length writer.now.buffer.now) (idle (known writer.now.names) writer.now.used) number (heard line.now) further }
+) -> Result<Statement<'a>, Failure>
+    requires { length words.now ≤ length scratch.old }
+    ensures { MatchResult result
+        (λ s. (worded words.now ≡ Some (said_by s)) × (answer_to (length writer.now.buffer.now) (idle (known writer.now.names) writer.now.used) None (said_by s) ≡ Ok tt))
+        (λ f. failure_at (length writer.now.buffer.now) (idle (known writer.now.names) writer.now.used) (worded words.now) line ≡ Some f) }
 {
-    match hear(line, scratch) {
-        Heard::Silent => Opening::Nothing,
-        Heard::Unreadable => Opening::Fail(Failure::Unreadable { line: number }),
-        Heard::Said(statement) => admit(writer, statement, number),
+    let statement = read(words, line, scratch)?;
+    match ask(writer, &statement) {
+        Ok(()) => Ok(statement),
+        Err(refusal) => Err(Failure::Refused { refusal, line }),
     }
 }

@@ -1,4 +1,5 @@
 use Rattle.std.proofs.Common.{◌≡◌, [], None, ◌∙◌}
+use Rattle.std.specs.Result.{result_err}
 use Rattle.history.specs.Tales.{idle}
 use Rattle.composing.specs.Lines.{lines_of}
 use Rattle.composing.specs.Composed.{end_ledger, on_ledger}
@@ -7,12 +8,12 @@ use Rattle.composing.proofs.compose.compose_new.Goals as goal
 
 pub returns : goal.returns
 returns c =
-    let r = c.compose_all-writer.result in
+    let r = c.compose_all-outcome.result in
     let m = c.make.ensures in
     let n = c.new-script.ensures in
     let text = c.args.text.now in
     let was = c.args.out.now in
-    let e : end_ledger c.compose_all-writer.new.script.failure r.buffer.now r.used ≡ on_ledger None was (idle [] 0) 0 (lines_of text)
-    = c.compose_all-writer.ensures.ledger ∙ (λ i. on_ledger None (m.bytes i) (idle (m.names i) (m.used i)) (n.line i) (lines_of (n.rest i))) in
-    let w = finished c.compose_all-writer.new.script.failure r.buffer.now r.used was text e r.within r.few c.requires.asked in
-    record { failed = w.failed; count = w.count; bytes = w.bytes; makes = w.makes; tied = c.compose_all-writer.ensures.tied ∙ m.tied }
+    let e : end_ledger (result_err r.result) r.writer.buffer.now r.writer.used ≡ on_ledger None was (idle [] 0) 0 (lines_of text)
+    = c.compose_all-outcome.ensures.ledger ∙ (λ i. on_ledger None (m.bytes i) (idle (m.names i) (m.used i)) (n.line i) (lines_of (n.rest i))) in
+    let w = finished (result_err r.result) r.writer.buffer.now r.writer.used was text e r.writer.within r.writer.few c.requires.asked in
+    record { failed = w.failed; count = w.count; bytes = w.bytes; makes = w.makes; tied = c.compose_all-outcome.ensures.tied ∙ m.tied }
