@@ -2,26 +2,22 @@
 #![tactic(auto)]
 
 use composing::compose::compose;
-use composing::report::report;
+use statement::limits::LONGEST_STREAM;
 use std::io::{Read, Write};
-
-// The longest buffer that a stream is written into.
-const LONGEST: usize = 16777216;
 
 fn main(rt: HostRuntime) -> anyhow::Result<()> {
     let heap = rt.alloc();
     let mut text = Vec::new(heap);
     rt.stdin().read_to_end(&mut text)?;
     // no statement's spelling is longer than its words, and one byte stays free
-    let room = text.len().saturating_add(1).min(LONGEST);
+    let room = text.len().saturating_add(1).min(LONGEST_STREAM);
     let mut out = vec![in heap; 0u8; room]?;
     match compose(heap, text.as_slice(), out.as_mut_slice())? {
-        Ok(n) if n <= out.len() => rt.stdout().write_all(&out[0..n])?,
-        Ok(_) => {}
-        Err(failure) => {
-            let line = report(heap, failure)?;
-            println!(rt; "{line}")?;
+        Ok(n) => {
+            out.truncate(n);
+            rt.stdout().write_all(out.as_slice())?;
         }
+        Err(failure) => println!(rt; "{failure}")?,
     }
     Ok(())
 }

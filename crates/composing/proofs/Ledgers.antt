@@ -1,5 +1,5 @@
 -- Lines, one by one, against the ledger of a whole text.
-use Rattle.std.proofs.Common.{◌≡◌, ℕ, ◌+◌, true, false, cond, List, [], ◌∷◌, ◌++◌, length, Some, None, Ok, Err, Option, Result, sym, refl, ap, ◌∙◌, add-zero, arith, length-append}
+use Rattle.std.proofs.Common.{◌≡◌, ℕ, ◌+◌, true, false, cond, List, ◌++◌, length, Some, None, Ok, Err, Option, Result, sym, refl, ap, ◌∙◌, add-zero, arith, length-append}
 use lib.Seq.{sets, length-sets}
 use Rattle.std.specs.Result.{result_err, is_err}
 use Rattle.std.proofs.lemmas.Bool.{true≢false, false≢true}

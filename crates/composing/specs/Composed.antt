@@ -1,5 +1,5 @@
 -- What composing gives: the statements that are written, and why it ends before the text does, if so.
-use Rattle.std.specs.Prelude.{◌≡◌, ℕ, ◌+◌, Bool, true, false, cond, List, [], ◌∷◌, length, take, Some, None, Ok, Err, Option, Result}
+use Rattle.std.specs.Prelude.{ℕ, ◌+◌, Bool, true, false, cond, List, [], ◌∷◌, length, Some, None, Ok, Err, Option, Result}
 use Rattle.std.proofs.lemmas.List.Edits.{sets}
 use Rattle.statement.specs.declared.types.Fault.TheVariants as fault
 use Rattle.wording.specs.Words.{worded}
