@@ -41,6 +41,7 @@ fn perform<'t, S: Sheet>(
             .map_err(|fault| Failure { fault, spot });
     };
     arrive(&mut work.pen, tail);
+    // A form that the project fixes: a name with no entry leaves the beam at the AT point.
     let Some(at) = table.find(name.bytes) else {
         return Ok(());
     };

@@ -76,7 +76,7 @@ impl Table {
         *self.slot(at) = definition;
     }
 
-    // One entry, to be written.
+    // One entry, to be written; that it is lent is a form that the project fixes.
     fn slot(&mut self, at: usize) -> &mut Definition
         requires { at < vec_len self.old.entries }
         ensures* { sem 𝓛 (follows the_row definition_row self.entry.ghost_name result.ghost_name (λ w. record { entries = with_item self.old.entries at w; room = self.old.room; few = self.old.few })) }
