@@ -1,1 +1,1 @@
-mod Pieces
+mod Counts

@@ -1,10 +1,8 @@
 // Counts and strings.
 ghost use Rattle.std.specs.Prelude.{◌≡◌, ◌+◌, ◌-◌, ◌*◌, ◌≤◌};
 ghost use Rattle.statement.specs.Reading.{count, string};
-ghost use Rattle.arguments.specs.Pieces.{bytes_in};
-ghost use Rattle.arguments.specs.Stops.{long_count_by, count_front, string_front, CountTaken, StringTaken};
+ghost use Rattle.arguments.specs.Stops.{long_count_by, count_front, string_front, StringLies, StringStandsBy};
 
-use crate::piece::Piece;
 use statement::limits::LONGEST_NAME;
 use statement::types::{Fault, Part, Stop};
 
@@ -21,36 +19,44 @@ fn long_count(high: u8, low: u8) -> Result<usize, Stop>
     }
 }
 
-// The count at the front of a piece, and the piece after it.
-// (By slice patterns, a rule of the project: a short byte, or a high and a low one.)
-fn read_count(piece: Piece<'_>) -> Result<(usize, Piece<'_>), Stop>
-    ensures value { count_front result ≡ count (bytes_in piece.entry) }
-    ensures taken { CountTaken result piece.entry }
+// The count at the front of the bytes, and the bytes after it.
+pub(crate) fn read_count(bytes: &[u8]) -> Result<(usize, &[u8]), Stop>
+    ensures { count_front result ≡ count bytes.now }
 {
-    match piece.bytes() {
-        [n, ..] if *n < 128 => Ok((*n as usize, piece.after(1))),
-        [high, low, ..] => Ok((long_count(*high, *low)?, piece.after(2))),
+    match bytes {
+        [n, rest @ ..] if *n < 128 => Ok((*n as usize, rest)),
+        [high, low, rest @ ..] => Ok((long_count(*high, *low)?, rest)),
         _ => Err(Stop::Wanting),
     }
 }
 
-// The string at the front of a piece, if no longer than the limit, and the piece after it.
-pub(crate) fn read_string(limit: usize, piece: Piece<'_>) -> Result<(Part<'_>, Piece<'_>), Stop>
-    ensures value { string_front result ≡ string limit (bytes_in piece.entry) }
-    ensures taken { StringTaken result piece.entry }
+// The string at the front of the bytes, if no longer than the limit, and the bytes after it; `at` is their place in the statement.
+pub(crate) fn read_string(limit: usize, at: usize, bytes: &[u8]) -> Result<(Part<'_>, &[u8]), Stop>
+    requires { at ≤ 2 }
+    ensures value { string_front result ≡ string limit bytes.now }
+    ensures place { StringLies result at bytes.now }
+    ensures stands { StringStandsBy at result }
 {
-    let (n, piece) = read_count(piece)?;
+    let (n, rest) = read_count(bytes)?;
     if n > limit {
         return Err(Fault::TooLong.into());
     }
-    let (text, after) = piece.split_at(n).ok_or(Stop::Wanting)?;
-    Ok((text.part(), after))
+    if rest.len() < n {
+        return Err(Stop::Wanting);
+    }
+    let (text, after) = rest.split_at(n);
+    let part = Part {
+        at: at + (bytes.len() - rest.len()),
+        bytes: text,
+    };
+    Ok((part, after))
 }
 
-// The name at the front of a piece, if it is no longer than a name may be, and the piece after it.
-pub fn read_name(piece: Piece<'_>) -> Result<(Part<'_>, Piece<'_>), Stop>
-    ensures value { string_front result ≡ string 8 (bytes_in piece.entry) }
-    ensures taken { StringTaken result piece.entry }
+// The name at the front of what follows a code, if it is no longer than a name may be, and the bytes after it.
+pub fn read_name(rest: &[u8]) -> Result<(Part<'_>, &[u8]), Stop>
+    ensures value { string_front result ≡ string 8 rest.now }
+    ensures place { StringLies result 1 rest.now }
+    ensures stands { StringStandsBy 1 result }
 {
-    read_string(LONGEST_NAME, piece)
+    read_string(LONGEST_NAME, 1, rest)
 }

@@ -3,6 +3,5 @@
 
 pub mod count;
 pub mod pair;
-pub mod piece;
 pub mod plain;
 pub mod text;

@@ -1,24 +1,23 @@
 // Texts and escapes.
-ghost use Rattle.std.specs.Prelude.{◌≡◌};
-ghost use Rattle.statement.specs.Reading.{onto, string, texted, escaping};
-ghost use Rattle.statement.specs.Views.{shape_of, ReadingLies};
-ghost use Rattle.statement.specs.Places.{ReadingStands};
-ghost use Rattle.arguments.specs.Pieces.{bytes_in};
+ghost use Rattle.std.specs.Prelude.{◌≡◌, ℕ, List, ◌∷◌};
+ghost use Rattle.statement.specs.Statements.{act, plain, escape};
+ghost use Rattle.statement.specs.Reading.{onto, string, texted, escaped, escaping};
+ghost use Rattle.statement.specs.Views.{bytes_of, said_by, shape_of, LiesIn, PartsLie, ReadingLies};
+ghost use Rattle.statement.specs.Places.{StringStands, PartsStand, ReadingStands};
 
 use crate::count::read_string;
-use crate::piece::Piece;
 use statement::layout::Manner;
 use statement::letters::is_text;
 use statement::limits::LONGEST_STRING;
-use statement::types::{Fault, Statement, Stop};
+use statement::types::{Fault, Part, Statement, Stop};
 
-// The statement of a string of text codes, from what follows the code.
-pub fn read_text(manner: Manner, piece: Piece<'_>) -> Result<Statement<'_>, Stop>
-    ensures value { shape_of result ≡ onto (string 512 (bytes_in piece.entry)) (texted manner) }
-    ensures parts { ReadingLies result piece.entry.whole.now }
-    ensures stands { piece.entry.at ≡ 1 → ReadingStands result }
+// The statement of a string of text codes; `rest` is what follows the code.
+pub fn read_text(manner: Manner, rest: &[u8]) -> Result<Statement<'_>, Stop>
+    ensures value { shape_of result ≡ onto (string 512 rest.now) (texted manner) }
+    ensures parts { (code : ℕ) → ReadingLies result (code ∷ rest.now) }
+    ensures stands { ReadingStands result }
 {
-    let (text, _) = read_string(LONGEST_STRING, piece)?;
+    let (text, _) = read_string(LONGEST_STRING, 1, rest)?;
     if is_text(text.bytes) {
         Ok(Statement::letters(manner, text))
     } else {
@@ -26,13 +25,33 @@ pub fn read_text(manner: Manner, piece: Piece<'_>) -> Result<Statement<'_>, Stop
     }
 }
 
-// The statement of a value and a string, from what follows the code.
-pub fn read_escape(piece: Piece<'_>) -> Result<Statement<'_>, Stop>
-    ensures value { shape_of result ≡ escaping (bytes_in piece.entry) }
-    ensures parts { ReadingLies result piece.entry.whole.now }
-    ensures stands { piece.entry.at ≡ 1 → ReadingStands result }
+// The escape of a value and a text.
+fn escape_of(value: u8, text: Part<'_>) -> Statement<'_>
+    ensures said { said_by result ≡ act (plain (escape value (bytes_of text.entry))) }
+    ensures parts { (bs : List ℕ) → LiesIn text.entry bs → PartsLie result bs }
+    ensures stands { StringStands 2 text.entry → PartsStand result }
 {
-    let (value, rest) = piece.split_first().ok_or(Stop::Wanting)?;
-    let (text, _) = read_string(LONGEST_STRING, rest)?;
-    Ok(Statement::Escdev(value, text))
+    Statement::Escdev(value, text)
+}
+
+// The escape with a value; `rest` is what follows the value.
+fn escape_with(value: u8, rest: &[u8]) -> Result<Statement<'_>, Stop>
+    ensures value { shape_of result ≡ onto (string 512 rest.now) (escaped value) }
+    ensures parts { (code : ℕ) → ReadingLies result (code ∷ value ∷ rest.now) }
+    ensures stands { ReadingStands result }
+{
+    let (text, _) = read_string(LONGEST_STRING, 2, rest)?;
+    Ok(escape_of(value, text))
+}
+
+// The statement of a value and a string; `rest` is what follows the code.
+pub fn read_escape(rest: &[u8]) -> Result<Statement<'_>, Stop>
+    ensures value { shape_of result ≡ escaping rest.now }
+    ensures parts { (code : ℕ) → ReadingLies result (code ∷ rest.now) }
+    ensures stands { ReadingStands result }
+{
+    match rest {
+        [] => Err(Stop::Wanting),
+        [value, rest @ ..] => escape_with(*value, rest),
+    }
 }

@@ -1,13 +1,11 @@
 // Calls.
-ghost use Rattle.std.specs.Prelude.{◌≡◌, ℕ, ◌+◌, List, length, Some};
-ghost use Rattle.statement.specs.Reading.{onto, string, tailed, calling};
+ghost use Rattle.std.specs.Prelude.{◌≡◌, ℕ, ◌+◌, ◌≤◌, List, ◌∷◌, length, take, drop, Some};
+ghost use Rattle.statement.specs.Reading.{onto, string, tail_of, tailed, calling};
 ghost use Rattle.statement.specs.Views.{bytes_of, tail_said, shape_of, LiesIn, TailLies, ReadingLies};
 ghost use Rattle.statement.specs.Places.{StringStands, TailStands, ReadingStands};
-ghost use Rattle.arguments.specs.Pieces.{bytes_in};
 
 use crate::tail::read_tail;
 use arguments::count::read_name;
-use arguments::piece::Piece;
 use statement::letters::is_name;
 use statement::limits::LONGEST_TAIL;
 use statement::types::{Fault, Part, Statement, Stop, Tail};
@@ -27,19 +25,41 @@ fn call_of<'a>(name: Part<'a>, tail: Tail<'a>) -> Result<Statement<'a>, Stop>
     }
 }
 
-// The statement of a name and a tail, from what follows the code.
-#[tactic(auto, using(crate::proofs::Calls::called))]
-pub(crate) fn read_call(piece: Piece<'_>) -> Result<Statement<'_>, Stop>
-    ensures value { shape_of result ≡ onto (string 8 (bytes_in piece.entry)) calling }
-    ensures parts { ReadingLies result piece.entry.whole.now }
-    ensures stands { piece.entry.at ≡ 1 → ReadingStands result }
+// The call of a name with the bytes of a tail, which follow the name and their own length.
+fn call_to<'a>(name: Part<'a>, bytes: &'a [u8]) -> Result<Statement<'a>, Stop>
+    requires place { name.at ≤ 3 }
+    requires size { length (bytes_of name) ≤ 8 }
+    ensures value { shape_of result ≡ tailed (bytes_of name.entry) (tail_of bytes.now) }
+    ensures parts { (bs : List ℕ) → LiesIn name.entry bs → take (length bytes.now) (drop (name.entry.at + length (bytes_of name.entry) + 1) bs) ≡ bytes.now → ReadingLies result bs }
+    ensures stands { StringStands 1 name.entry → ReadingStands result }
 {
-    let (name, rest) = read_name(piece)?;
-    let (size, rest) = rest.split_first().ok_or(Stop::Wanting)?;
-    if size as usize > LONGEST_TAIL {
-        return Err(Fault::WrongLayout.into());
-    }
-    let (tail, _) = rest.split_at(size as usize).ok_or(Stop::Wanting)?;
-    let tail = read_tail(tail).ok_or(Fault::WrongLayout)?;
+    let at = name.at + name.bytes.len() + 1;
+    let tail = read_tail(at, bytes).ok_or(Fault::WrongLayout)?;
     call_of(name, tail)
+}
+
+// The call of a name; `rest` is what follows the name.
+fn call_with<'a>(name: Part<'a>, rest: &'a [u8]) -> Result<Statement<'a>, Stop>
+    requires place { name.at ≤ 3 }
+    requires size { length (bytes_of name) ≤ 8 }
+    ensures value { shape_of result ≡ calling (bytes_of name.entry) rest.now }
+    ensures parts { (bs : List ℕ) → LiesIn name.entry bs → drop (name.entry.at + length (bytes_of name.entry)) bs ≡ rest.now → ReadingLies result bs }
+    ensures stands { StringStands 1 name.entry → ReadingStands result }
+{
+    match rest {
+        [] => Err(Stop::Wanting),
+        [t, ..] if *t as usize > LONGEST_TAIL => Err(Fault::WrongLayout.into()),
+        [t, bytes @ ..] if bytes.len() < *t as usize => Err(Stop::Wanting),
+        [t, bytes @ ..] => call_to(name, &bytes[0..*t as usize]),
+    }
+}
+
+// The statement of a name and a tail; `rest` is what follows the code.
+pub(crate) fn read_call(rest: &[u8]) -> Result<Statement<'_>, Stop>
+    ensures value { shape_of result ≡ onto (string 8 rest.now) calling }
+    ensures parts { (code : ℕ) → ReadingLies result (code ∷ rest.now) }
+    ensures stands { ReadingStands result }
+{
+    let (name, after) = read_name(rest)?;
+    call_with(name, after)
 }

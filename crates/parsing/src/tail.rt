@@ -1,16 +1,13 @@
 // Tails of calls.
-ghost use Rattle.std.specs.Prelude.{◌≡◌, ℕ, ◌+◌, List, Option};
+ghost use Rattle.std.specs.Prelude.{◌≡◌, ℕ, ◌+◌, ◌≤◌, List, length, take, drop, Option};
 ghost use Rattle.std.specs.Option.{option_map};
 ghost use Rattle.statement.specs.Statements.{CallTail};
 ghost use Rattle.statement.specs.Reading.{tail_at, tail_end, tail_as, coded_tail, tail_of};
-ghost use Rattle.arguments.specs.Pieces.{bytes_in};
-ghost use Rattle.parsing.specs.Tails.{TailPartsBy, TailStandsBy, as_front, AsTaken};
+ghost use Rattle.parsing.specs.Tails.{TailPartsBy, TailStandsBy, as_front, AsLies, AsStands};
 ghost use Rattle.statement.specs.Views.{bytes_of, tail_said, PartLies};
 ghost use Rattle.statement.specs.Places.{NameStands};
 
-use arguments::piece::Piece;
 use statement::coordinate::coordinate_of;
-use statement::limits::LONGEST_NAME;
 use statement::types::{Part, Tail};
 
 // The tail that ends here.
@@ -43,48 +40,59 @@ fn tail_at<'a>(as_name: Option<Part<'a>>, rest: &[u8]) -> Option<Tail<'a>>
     }
 }
 
-// The AS name at the front of a piece, and the piece after it.
-fn read_as_name(piece: Piece<'_>) -> Option<(Part<'_>, Piece<'_>)>
-    ensures value { (k : Option (List ℕ) → List ℕ → Option CallTail) → as_front result k ≡ tail_as k (bytes_in piece.entry) }
-    ensures taken { AsTaken result piece.entry }
+// The AS name at the front of the bytes, and the bytes after it; `at` is their place in the statement.
+fn read_as_name(at: usize, bytes: &[u8]) -> Option<(Part<'_>, &[u8])>
+    requires { at ≤ 32 }
+    ensures value { (k : Option (List ℕ) → List ℕ → Option CallTail) → as_front result k ≡ tail_as k bytes.now }
+    ensures place { (bs : List ℕ) → take (length bytes.now) (drop at bs) ≡ bytes.now → AsLies result bs }
+    ensures stands { AsStands at result }
 {
-    let (n, rest) = piece.split_first()?;
-    if n as usize > LONGEST_NAME {
-        return None;
-    }
-    let (name, after) = rest.split_at(n as usize)?;
-    Some((name.part(), after))
-}
-
-// The tail that follows its code byte, if it fits exactly.
-fn coded_tail(code: u8, piece: Piece<'_>) -> Option<Tail<'_>>
-    ensures value { option_map tail_said result ≡ coded_tail code (bytes_in piece.entry) }
-    ensures parts { TailPartsBy result piece.entry.whole.now }
-    ensures stands { TailStandsBy piece.entry.at result }
-{
-    match code {
-        0x00 => tail_end(None, piece.bytes()),
-        0x40 => tail_at(None, piece.bytes()),
-        0x80 => {
-            let (name, after) = read_as_name(piece)?;
-            tail_end(Some(name), after.bytes())
-        }
-        0xC0 => {
-            let (name, after) = read_as_name(piece)?;
-            tail_at(Some(name), after.bytes())
+    match bytes {
+        [n, rest @ ..] if *n <= 8 && *n as usize <= rest.len() => {
+            let (name, after) = rest.split_at(*n as usize);
+            Some((
+                Part {
+                    at: at + 1,
+                    bytes: name,
+                },
+                after,
+            ))
         }
         _ => None,
     }
 }
 
-// The tail that a piece is, if it fits exactly.
-pub(crate) fn read_tail(piece: Piece<'_>) -> Option<Tail<'_>>
-    ensures value { option_map tail_said result ≡ tail_of (bytes_in piece.entry) }
-    ensures parts { TailPartsBy result piece.entry.whole.now }
-    ensures stands { TailStandsBy (piece.entry.at + 1) result }
+// The tail that follows its code byte, if it fits exactly; `at` is the place of `rest` in the statement.
+fn coded_tail(at: usize, code: u8, rest: &[u8]) -> Option<Tail<'_>>
+    requires { at ≤ 32 }
+    ensures value { option_map tail_said result ≡ coded_tail code rest.now }
+    ensures parts { (bs : List ℕ) → take (length rest.now) (drop at bs) ≡ rest.now → TailPartsBy result bs }
+    ensures stands { TailStandsBy at result }
 {
-    match piece.split_first() {
-        None => Some(Tail::Empty),
-        Some((code, rest)) => coded_tail(code, rest),
+    match code {
+        0x00 => tail_end(None, rest),
+        0x40 => tail_at(None, rest),
+        0x80 => {
+            let (name, after) = read_as_name(at, rest)?;
+            tail_end(Some(name), after)
+        }
+        0xC0 => {
+            let (name, after) = read_as_name(at, rest)?;
+            tail_at(Some(name), after)
+        }
+        _ => None,
+    }
+}
+
+// The tail that the bytes are, if they fit exactly; `at` is their place in the statement.
+pub(crate) fn read_tail(at: usize, bytes: &[u8]) -> Option<Tail<'_>>
+    requires { at ≤ 16 }
+    ensures value { option_map tail_said result ≡ tail_of bytes.now }
+    ensures parts { (bs : List ℕ) → take (length bytes.now) (drop at bs) ≡ bytes.now → TailPartsBy result bs }
+    ensures stands { TailStandsBy (at + 1) result }
+{
+    match bytes {
+        [] => Some(Tail::Empty),
+        [code, rest @ ..] => coded_tail(at + 1, *code, rest),
     }
 }

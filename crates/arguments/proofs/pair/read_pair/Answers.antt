@@ -15,8 +15,12 @@ four t a (p ∷ q ∷ []) s h e = absurd (omega arith)
 four t a (p ∷ q ∷ r ∷ []) s h e = absurd (omega arith)
 four t a (p ∷ q ∷ r ∷ u ∷ bs) s h e = e
 
-pub returns-in-len4-up-clause-value : goal.returns-in-len4-up-clause-value
-returns-in-len4-up-clause-value c =
+pub returns-in-len4-up : goal.returns-in-len4-up
+returns-in-len4-up c =
     let x = to_z-of_z w16 c.coordinate_of.result (record { sfits = c.coordinate_of.type_inv }) ∙ c.coordinate_of.ensures in
     let y = to_z-of_z w16 c.coordinate_of-in-len4-up.result (record { sfits = c.coordinate_of-in-len4-up.type_inv }) ∙ c.coordinate_of-in-len4-up.ensures in
-    four c.args.trace c.args.aim c.args.rest.now (shape_of c.lawful_travel.result) (search rules) (c.lawful_travel.ensures.value ∙ simp (x, y))
+    record {
+      value = four c.args.trace c.args.aim c.args.rest.now (shape_of c.lawful_travel.result) (search rules) (c.lawful_travel.ensures.value ∙ simp (x, y));
+      parts = c.lawful_travel.ensures.parts;
+      stands = c.lawful_travel.ensures.stands;
+    }
