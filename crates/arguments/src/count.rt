@@ -30,6 +30,7 @@ pub(crate) fn read_count(bytes: &[u8]) -> Result<(usize, &[u8]), Stop>
     }
 }
 
+// A place goes beside bytes: with a struct of both, tried, a job of calls took four tenths longer to draw.
 // The string at the front of the bytes, if no longer than the limit, and the bytes after it; `at` is their place in the statement.
 pub(crate) fn read_string(limit: usize, at: usize, bytes: &[u8]) -> Result<(Part<'_>, &[u8]), Stop>
     requires { at ≤ 2 }

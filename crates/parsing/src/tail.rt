@@ -10,6 +10,7 @@ ghost use Rattle.statement.specs.Places.{NameStands};
 use statement::coordinate::coordinate_of;
 use statement::types::{Part, Tail};
 
+// Two rules of the format, not one rule twice: a tail ends here, or with four bytes more.
 // The tail that ends here.
 fn tail_end<'a>(as_name: Option<Part<'a>>, rest: &[u8]) -> Option<Tail<'a>>
     ensures value { option_map tail_said result ≡ tail_end (option_map bytes_of as_name.entry) rest.now }
@@ -40,6 +41,7 @@ fn tail_at<'a>(as_name: Option<Part<'a>>, rest: &[u8]) -> Option<Tail<'a>>
     }
 }
 
+// A place goes beside bytes, as where strings are read: a struct of both was tried, and made reading slower.
 // The AS name at the front of the bytes, and the bytes after it; `at` is their place in the statement.
 fn read_as_name(at: usize, bytes: &[u8]) -> Option<(Part<'_>, &[u8])>
     requires { at ≤ 32 }
