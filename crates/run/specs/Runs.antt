@@ -206,3 +206,9 @@ finish c = record { drawing = finish_live c.drawing.life c.read c.drawing; read 
 
 abbrev pub report_of : Config → Report
 report_of c = record { read = c.read; pictures = c.drawing.pictures; statements = c.count; beam = c.drawing.ink.beam; life = c.drawing.life }
+
+-- the refusal that a life tells, if any
+abbrev pub refusal_of : Life → Option Refusal
+refusal_of Live = None
+refusal_of Closed = None
+refusal_of (Refused f) = Some f

@@ -1,10 +1,10 @@
-// How faults and refusals are made.
+// How faults and refusals are made, and which refusal a life tells.
 ghost use Rattle.std.specs.Prelude.{◌≡◌};
-ghost use Rattle.run.specs.Runs.{refusal_at};
+ghost use Rattle.run.specs.Runs.{refusal_at, refusal_of};
 ghost use Rattle.run.specs.declared.types.Fault.{Fault};
 ghost use Rattle.run.specs.declared.types.Fault.TheVariants.{SheetFull};
 
-use crate::types::{Fault, Refusal, Spot};
+use crate::types::{Fault, Life, Refusal, Spot};
 
 impl From<statement::types::Fault> for Fault {
     ghost from_gives = { λ f e. e ≡ Fault.Read f };
@@ -41,6 +41,18 @@ impl Refusal {
             fault,
             place,
             spot: Spot::OUTSIDE,
+        }
+    }
+}
+
+impl Life {
+    // The refusal of a run that was refused.
+    pub fn refusal(self) -> Option<Refusal>
+        ensures { result ≡ refusal_of self }
+    {
+        match self {
+            Life::Live | Life::Closed => None,
+            Life::Refused(refusal) => Some(refusal),
         }
     }
 }
