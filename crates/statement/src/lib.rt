@@ -8,6 +8,7 @@ pub mod layout;
 pub mod letters;
 pub mod limits;
 pub mod number;
+pub mod part;
 pub mod standing;
 pub mod stating;
 pub mod stop;
