@@ -7,6 +7,7 @@ ghost use Rattle.listing.specs.Lines.{pair_text, at_text, tail_text, argument_te
 
 use crate::quote::put_string;
 use crate::words::{header_text, indent_of, name_of};
+use spelling::parts::Parts;
 use statement::types::{Standing, Statement, Tail};
 use std::alloc::AllocError;
 use walking::walker::{End, Placed};
@@ -68,31 +69,23 @@ fn put_tail(out: &mut Vec<u8>, tail: Tail<'_>) -> Result<(), AllocError>
 fn put_arguments(out: &mut Vec<u8>, statement: Statement<'_>) -> Result<(), AllocError>
     ensures { OnOk result (out.new.items ≡ out.old.items ++ argument_text (said_by statement.entry)) }
 {
-    match statement {
-        Statement::Movea(x, y)
-        | Statement::Mover(x, y)
-        | Statement::Drawa(x, y)
-        | Statement::Drawr(x, y)
-        | Statement::Dota(x, y)
-        | Statement::Dotr(x, y) => put_pair(out, x, y),
-        Statement::Text(text) | Statement::Textr(text) | Statement::Texto(text) => {
-            put_string(out, text.bytes)
-        }
-        Statement::Escdev(value, text) => {
+    match Parts::from(statement) {
+        Parts::Bare(_) => Ok(()),
+        Parts::Pair(_, _, x, y) => put_pair(out, x, y),
+        Parts::Text(_, text) => put_string(out, text.bytes),
+        Parts::Escape(value, text) => {
             put_value(out, value)?;
             put_string(out, text.bytes)
         }
-        Statement::Linmod(value) | Statement::Setint(value) => put_value(out, value),
-        Statement::Subhed(name, header) => {
+        Parts::Value(_, value) => put_value(out, value),
+        Parts::Heading(name, header) => {
             put_name(out, name.bytes)?;
             put_name(out, header_text(header).as_bytes())
         }
-        Statement::Insts(name, tail) => {
+        Parts::Calling(name, tail) => {
             put_name(out, name.bytes)?;
             put_tail(out, tail)
         }
-        Statement::Null | Statement::Erase | Statement::Endpic | Statement::Subend => Ok(()),
-        Statement::Mark | Statement::Movemk | Statement::Drawmk => Ok(()),
     }
 }
 

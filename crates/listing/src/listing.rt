@@ -7,7 +7,7 @@ use crate::line::{put_end, put_line};
 use std::alloc::{AllocError, Global};
 use walking::walker::Walker;
 
-// The lines of a stream.
+// The lines of a stream, put in a loop, since the end comes out of the same step as the statements.
 pub fn list(heap: Global, bytes: &[u8]) -> Result<Vec<u8>, AllocError>
     ensures { IfOk result (λ text. text.items ≡ listed (read_back bytes.now)) }
 {
