@@ -6,10 +6,7 @@ use Rattle.std.proofs.lemmas.List.{append_assoc}
 use Rattle.std.proofs.lemmas.Bool.{eqb-true, cond-true, cond-false}
 use Rattle.std.proofs.lemmas.Bool.Decides.{nat_tests}
 use Rattle.listing.specs.Lines.{hex_digit, is_plain, quoted_byte}
-use Rattle.wording.specs.declared.quote.Spot.{Spot}
-use Rattle.wording.specs.declared.quote.Spot.TheVariants as spot
-use Rattle.wording.specs.declared.quote.Turn.TheVariants as turn
-use Rattle.wording.specs.Quotes.{hex_in, high_turn, low_turn, turn_at, before, turned, unquoted_at, unquoted}
+use Rattle.wording.specs.Quotes.{Spot, between, slashed, at_high, at_low, goes, stands, closes, hex_in, high_turn, low_turn, turn_at, before, turned, unquoted_at, unquoted}
 use Rattle.wording.proofs.Tables.{same}
 
 abbrev Found : Type 0
@@ -21,10 +18,10 @@ writing t after = flat_map quoted_byte t ++ (34 ∷ after)
 
 -- what was read of a byte's form
 abbrev pub held : Spot → List ℕ
-held spot.Between = []
-held spot.Letter = 92 ∷ []
-held spot.High = 92 ∷ 120 ∷ []
-held (spot.Low h) = 92 ∷ 120 ∷ hex_digit h ∷ []
+held between = []
+held slashed = 92 ∷ []
+held at_high = 92 ∷ 120 ∷ []
+held (at_low h) = 92 ∷ 120 ∷ hex_digit h ∷ []
 
 pub hex_written : (c d : ℕ) → hex_in c ≡ Some d → (hex_digit d ≡ c) × (d < 16)
 hex_written c d e = go (leb 48 c && leb c 57) refl e
@@ -49,33 +46,33 @@ module _ (c : ℕ) (cs t after : List ℕ) (k : Spot → Option Found) (ih : (z 
   none e = absurd (cc)
 
   -- a byte that stands in this form
-  byte_written : (b : ℕ) (form : List ℕ) → quoted_byte b ≡ form → before (b ∷ []) (k spot.Between) ≡ Some (t, after) → form ++ cs ≡ writing t after
+  byte_written : (b : ℕ) (form : List ℕ) → quoted_byte b ≡ form → before (b ∷ []) (k between) ≡ Some (t, after) → form ++ cs ≡ writing t after
   byte_written b form q e =
-      let p = before_come b (k spot.Between) t after e in
-      (λ i. sym q i ++ ih spot.Between p.0 p.1 i) ∙ sym (append_assoc (quoted_byte b) (flat_map quoted_byte p.0) (34 ∷ after)) ∙ ap (λ z. writing z after) p.2
+      let p = before_come b (k between) t after e in
+      (λ i. sym q i ++ ih between p.0 p.1 i) ∙ sym (append_assoc (quoted_byte b) (flat_map quoted_byte p.0) (34 ∷ after)) ∙ ap (λ z. writing z after) p.2
 
-  plain_written : (x : Bool) → is_plain c ≡ x → turned (cond x (Some (turn.Byte c)) None) cs k ≡ Some (t, after) → c ∷ cs ≡ writing t after
+  plain_written : (x : Bool) → is_plain c ≡ x → turned (cond x (Some (stands c)) None) cs k ≡ Some (t, after) → c ∷ cs ≡ writing t after
   plain_written true h e = byte_written c (c ∷ []) (cond-true (is_plain c) (c ∷ []) (92 ∷ 120 ∷ hex_digit (c / 16) ∷ hex_digit (c % 16) ∷ []) h) e
   plain_written false h e = none e
 
-  slash_written : (x : Bool) → eqb c 92 ≡ x → turned (cond x (Some (turn.Go spot.Letter)) (cond (is_plain c) (Some (turn.Byte c)) None)) cs k ≡ Some (t, after) → c ∷ cs ≡ writing t after
-  slash_written true h e = ap (λ z. z ∷ cs) (eqb-true c 92 h) ∙ ih spot.Letter t e
+  slash_written : (x : Bool) → eqb c 92 ≡ x → turned (cond x (Some (goes slashed)) (cond (is_plain c) (Some (stands c)) None)) cs k ≡ Some (t, after) → c ∷ cs ≡ writing t after
+  slash_written true h e = ap (λ z. z ∷ cs) (eqb-true c 92 h) ∙ ih slashed t e
   slash_written false h e = plain_written (is_plain c) refl e
 
-  between_written : (x : Bool) → eqb c 34 ≡ x → turned (cond x (Some turn.End) (cond (eqb c 92) (Some (turn.Go spot.Letter)) (cond (is_plain c) (Some (turn.Byte c)) None))) cs k ≡ Some (t, after) → c ∷ cs ≡ writing t after
+  between_written : (x : Bool) → eqb c 34 ≡ x → turned (cond x (Some closes) (cond (eqb c 92) (Some (goes slashed)) (cond (is_plain c) (Some (stands c)) None))) cs k ≡ Some (t, after) → c ∷ cs ≡ writing t after
   between_written true h e =
       let q : ◌≡◌ {A = Found} ([], cs) (t, after) = same ([], cs) (t, after) e in ap (λ z. z ∷ cs) (eqb-true c 34 h) ∙ ap (λ z. writing z.0 z.1) q
   between_written false h e = slash_written (eqb c 92) refl e
 
-  letter_written : (x : Bool) → eqb c 120 ≡ x → turned (cond x (Some (turn.Go spot.High)) None) cs k ≡ Some (t, after) → 92 ∷ c ∷ cs ≡ writing t after
-  letter_written true h e = ap (λ z. 92 ∷ z ∷ cs) (eqb-true c 120 h) ∙ ih spot.High t e
+  letter_written : (x : Bool) → eqb c 120 ≡ x → turned (cond x (Some (goes at_high)) None) cs k ≡ Some (t, after) → 92 ∷ c ∷ cs ≡ writing t after
+  letter_written true h e = ap (λ z. 92 ∷ z ∷ cs) (eqb-true c 120 h) ∙ ih at_high t e
   letter_written false h e = none e
 
   high_written : (o : Option ℕ) → hex_in c ≡ o → turned (high_turn o) cs k ≡ Some (t, after) → 92 ∷ 120 ∷ c ∷ cs ≡ writing t after
   high_written None h e = none e
-  high_written (Some d) h e = let w = hex_written c d h in ap (λ z. 92 ∷ 120 ∷ z ∷ cs) (sym w.0) ∙ ih (spot.Low d) t e
+  high_written (Some d) h e = let w = hex_written c d h in ap (λ z. 92 ∷ 120 ∷ z ∷ cs) (sym w.0) ∙ ih (at_low d) t e
 
-  escape_written : (h d : ℕ) → hex_digit d ≡ c → d < 16 → (x : Bool) → is_plain (h * 16 + d) ≡ x → turned (cond x None (Some (turn.Byte (h * 16 + d)))) cs k ≡ Some (t, after) → 92 ∷ 120 ∷ hex_digit h ∷ c ∷ cs ≡ writing t after
+  escape_written : (h d : ℕ) → hex_digit d ≡ c → d < 16 → (x : Bool) → is_plain (h * 16 + d) ≡ x → turned (cond x None (Some (stands (h * 16 + d)))) cs k ≡ Some (t, after) → 92 ∷ 120 ∷ hex_digit h ∷ c ∷ cs ≡ writing t after
   escape_written h d l m true p e = none e
   escape_written h d l m false p e =
       byte_written (h * 16 + d) (92 ∷ 120 ∷ hex_digit h ∷ c ∷ [])
@@ -88,14 +85,14 @@ module _ (c : ℕ) (cs t after : List ℕ) (k : Spot → Option Found) (ih : (z 
   low_written h (Some d) f e = let w = hex_written c d f in escape_written h d w.0 w.1 (is_plain (h * 16 + d)) refl e
 
   step_written : (s : Spot) → turned (turn_at s c) cs k ≡ Some (t, after) → held s ++ (c ∷ cs) ≡ writing t after
-  step_written spot.Between e = between_written (eqb c 34) refl e
-  step_written spot.Letter e = letter_written (eqb c 120) refl e
-  step_written spot.High e = high_written (hex_in c) refl e
-  step_written (spot.Low h) e = low_written h (hex_in c) refl e
+  step_written between e = between_written (eqb c 34) refl e
+  step_written slashed e = letter_written (eqb c 120) refl e
+  step_written at_high e = high_written (hex_in c) refl e
+  step_written (at_low h) e = low_written h (hex_in c) refl e
 
 written_at : (s : Spot) (cs t after : List ℕ) → unquoted_at s cs ≡ Some (t, after) → held s ++ cs ≡ writing t after
 written_at s [] t after e = absurd (cc)
 written_at s (c ∷ cs) t after e = step_written c cs t after (λ z. unquoted_at z cs) (λ z u. written_at z cs u after) s e
 
 pub string_written : (cs : List ℕ) (p : List ℕ × List ℕ) → unquoted cs ≡ Some p → writing p.0 p.1 ≡ cs
-string_written cs p e = sym (written_at spot.Between cs p.0 p.1 e)
+string_written cs p e = sym (written_at between cs p.0 p.1 e)

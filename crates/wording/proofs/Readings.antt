@@ -10,11 +10,9 @@ use Rattle.std.proofs.lemmas.List.{append_assoc}
 use Rattle.std.proofs.lemmas.Bool.{and_parts, and_from, le-leb}
 use Rattle.std.proofs.lemmas.Bool.Decides.{nat_tests}
 use Rattle.listing.specs.Lines.{hex_digit, is_plain, quoted_byte}
-use Rattle.wording.specs.declared.quote.Spot.TheVariants as spot
-use Rattle.wording.specs.declared.quote.Turn.TheVariants as turn
 use Rattle.wording.specs.Laws.{AreBytes, Is16Bits, Spaceless}
 use Rattle.wording.specs.Numerals.{is_short, number_after, number_in, up_to, value_in, negated, unsigned, signed_in, coordinate_in}
-use Rattle.wording.specs.Quotes.{hex_in, high_turn, low_turn, escaped_turn, before, turned, unquoted_at, unquoted}
+use Rattle.wording.specs.Quotes.{slashed, goes, stands, closes, hex_in, high_turn, low_turn, escaped_turn, before, turned, unquoted_at, unquoted}
 use Rattle.wording.specs.Texts.{given, behind}
 use Rattle.wording.proofs.Decimal.{own, number_is}
 use Rattle.wording.proofs.Quoting.{writing}
@@ -78,14 +76,14 @@ byte_read : (b : ℕ) (t after : List ℕ) → b < 256 → unquoted (writing t a
 byte_read b t after h ih true e =
     let n = plain_is b e in
     let more = writing t after in
-    (λ i. turned (cond (n.0 i) (Some turn.End) (cond (n.1 i) (Some (turn.Go spot.Letter)) (cond (e i) (Some (turn.Byte b)) None))) more (λ z. unquoted_at z more)) ∙ ap (before (b ∷ [])) ih
+    (λ i. turned (cond (n.0 i) (Some closes) (cond (n.1 i) (Some (goes slashed)) (cond (e i) (Some (stands b)) None))) more (λ z. unquoted_at z more)) ∙ ap (before (b ∷ [])) ih
 byte_read b t after h ih false e =
     let more = writing t after in
     let low = hex_digit (b % 16) in
     (λ i. turned (high_turn (hex_read (b / 16) (shr_lt {n = b} 4 4 h) i)) (low ∷ more) (λ z. unquoted_at z (low ∷ more)))
     ∙ (λ i. turned (low_turn (b / 16) (hex_read (b % 16) (omega arith) i)) more (λ z. unquoted_at z more))
     ∙ ap (λ x. turned (escaped_turn x) more (λ z. unquoted_at z more)) (split b 4)
-    ∙ ap (λ x. turned (cond x None (Some (turn.Byte b))) more (λ z. unquoted_at z more)) e
+    ∙ ap (λ x. turned (cond x None (Some (stands b))) more (λ z. unquoted_at z more)) e
     ∙ ap (before (b ∷ [])) ih
 
 pub string_read : (t after : List ℕ) → AreBytes t → unquoted (writing t after) ≡ Some (t, after)
