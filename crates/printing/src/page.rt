@@ -57,7 +57,7 @@ pub(crate) fn put_page<S: Sheet>(sheet: &S, out: &mut [u8])
 {
     let side = sheet.side().pixels();
     let width = side as usize + 1;
-    // rows by their places: of chunks that are lent to be written, a proof knows no byte afterwards
+    // rows by their places; tried: `chunks_exact_mut`, and a rest cut by `split_at_mut`: after either loop a proof knows no byte of the page
     for row in 0..side {
         let start = row as usize * width;
         put_row(sheet, row, &mut out[start..start + width]);
