@@ -5,7 +5,7 @@ ghost use Rattle.printing.specs.Reports.{line_of, report_line};
 
 use arrayvec::ArrayString;
 use itoa::{Buffer, Integer};
-use run::types::{Life, Report, Spot};
+use run::types::{Report, Spot};
 
 // No line has more bytes.
 pub(crate) const LONGEST: usize = 500;
@@ -42,10 +42,8 @@ fn line_of(report: &Report, number: u8, place: usize, spot: Spot) -> ArrayString
 pub(crate) fn report_line(report: &Report) -> ArrayString<LONGEST>
     ensures { result.bytes ≡ report_line report.now }
 {
-    match report.life {
-        Life::Live | Life::Closed => line_of(report, 0, 0, Spot::OUTSIDE),
-        Life::Refused(refusal) => {
-            line_of(report, refusal.fault.number(), refusal.place, refusal.spot)
-        }
+    match report.life.refusal() {
+        None => line_of(report, 0, 0, Spot::OUTSIDE),
+        Some(refusal) => line_of(report, refusal.fault.number(), refusal.place, refusal.spot),
     }
 }
