@@ -37,9 +37,8 @@ fn write_all(slip: &mut Slip<'_>, script: &mut Script<'_>) -> Result<(), Failure
         if closes(slip.opened(), &statement) {
             return Ok(());
         }
-        if let Err(refusal) = slip.write(statement) {
-            return Err(Failure::Refused { refusal, line });
-        }
+        slip.write(statement)
+            .map_err(|refusal| Failure::Refused { refusal, line })?;
     }
     Err(Failure::Unfinished { line: script.line })
 }

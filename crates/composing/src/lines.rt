@@ -39,8 +39,7 @@ pub(crate) fn bare(line: &[u8]) -> &[u8]
 fn is_last(words: &[u8]) -> bool
     ensures { result ≡ bytes_eq words.now (codes "whole") }
 {
-    let last: &[u8] = b"whole";
-    words == last
+    words == b"whole".as_slice()
 }
 
 // Whether words say nothing.

@@ -52,8 +52,6 @@ pub(crate) fn read_opening<'a>(
         (λ f. failure_at (length writer.now.buffer.now) (idle (known writer.now.names) writer.now.used) (worded words.now) line ≡ Some f) }
 {
     let statement = read(words, line, scratch)?;
-    match ask(writer, &statement) {
-        Ok(()) => Ok(statement),
-        Err(refusal) => Err(Failure::Refused { refusal, line }),
-    }
+    ask(writer, &statement).map_err(|refusal| Failure::Refused { refusal, line })?;
+    Ok(statement)
 }

@@ -68,7 +68,7 @@ impl<'a> Script<'a> {
     }
 }
 
-// The statement that the words of the line of this number say, with memory for its text.
+// The statement that a line's words say; no method of Script (tried): it is lent from the scratch, and the borrow would go into the result.
 pub(crate) fn read<'a>(
     words: &'a [u8],
     line: usize,
