@@ -29,7 +29,7 @@ impl Pen {
         ensures { (m : Meaning) → ink_of result m ≡ (begun m).drawing.ink }
     {
         Pen {
-            beam: Point { x: 0, y: 0 },
+            beam: Point::default(),
             mode: LineMode::Solid,
             intensity: 128,
             marks: ArrayVec::new(),

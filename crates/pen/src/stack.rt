@@ -5,7 +5,6 @@ ghost use Rattle.run.specs.Performing.{push_mark, recall};
 ghost use Rattle.pen.specs.Views.{stacked, ink_of, drawn_of};
 
 use crate::types::Pen;
-use geometry::Point;
 use run::types::Fault;
 use sheet::Sheet;
 use statement::layout::Trace;
@@ -23,7 +22,7 @@ impl Pen {
         ensures after { drawn_of result self.new (S.meaning sheet.new) ≡ recall trace (stacked self.old.marks) (ink_of self.old (S.meaning sheet.old)) }
         ensures tied { S.tied sheet.new ≡ S.tied sheet.old }
     {
-        let end = self.marks.pop().unwrap_or(Point { x: 0, y: 0 });
+        let end = self.marks.pop().unwrap_or_default();
         self.travel_to(sheet, trace, end)
     }
 }
