@@ -1,10 +1,11 @@
 // Calls within calls: the names that are open.
 ghost use Rattle.std.specs.Prelude.{◌≡◌, ◌<◌, [], ◌∷◌, ◌++◌, length, nat_le};
-ghost use Rattle.run.specs.Performing.{is_among};
+ghost use Rattle.run.specs.Performing.{is_among, spot_at};
 ghost use Rattle.calls.specs.Tables.{open_of};
 
 use crate::limits::MOST_OPEN_CALLS;
 use arrayvec::ArrayVec;
+use run::types::Spot;
 
 // The names of the open calls, the outermost first: each is its entry's own.
 #[derive(Drop)]
@@ -29,11 +30,14 @@ impl<'t> OpenNames<'t> {
         self.names.iter().any(|open| *open == name)
     }
 
-    // How many names are open.
-    pub(crate) fn depth(&self) -> usize
-        ensures { result ≡ length (open_of self.now) }
+    // The spot of a statement at an offset of the innermost body.
+    pub(crate) fn spot(&self, offset: usize) -> Spot
+        ensures { result ≡ spot_at (length (open_of self.now)) offset }
     {
-        self.names.len()
+        Spot {
+            calls: self.names.len(),
+            offset,
+        }
     }
 
     // Whether no call more may be open.
@@ -49,7 +53,7 @@ impl<'t> OpenNames<'t> {
         ensures { open_of result ≡ open_of self.now ++ (name.now ∷ []) }
     {
         let mut names = ArrayVec::new();
-        let _room = names.try_extend_from_slice(&self.names);
+        names.try_extend_from_slice(&self.names).unwrap();
         names.push(name);
         OpenNames { names }
     }

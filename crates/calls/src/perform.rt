@@ -10,7 +10,6 @@ use crate::nesting::OpenNames;
 use crate::steps::{admit, arrive, enter};
 use crate::types::{Failure, Table, Work};
 use parsing::read::read;
-use run::types::Spot;
 use sheet::Sheet;
 use statement::types::{Home, Standing, Statement, Stop};
 
@@ -28,17 +27,15 @@ fn perform<'t, S: Sheet>(
     ensures after { leaves result work.new (S.meaning sheet.new) ≡ perform_said (calls_left calls.now) (entries_of table.now) (open_of calls.now) offset (said_by statement.now) (ink_of work.old.pen (S.meaning sheet.old)) work.old.count }
     ensures tied { S.tied sheet.new ≡ S.tied sheet.old }
 {
-    let spot = Spot {
-        calls: calls.depth(),
-        offset,
-    };
-    admit(statement, work.count).map_err(|fault| Failure { fault, spot })?;
+    let spot = calls.spot(offset);
+    let failed = |fault| Failure { fault, spot };
+    admit(statement, work.count).map_err(failed)?;
     work.count += 1;
     let Statement::Insts(name, tail) = statement else {
         return work
             .pen
             .perform_plain(sheet, statement)
-            .map_err(|fault| Failure { fault, spot });
+            .map_err(failed);
     };
     arrive(&mut work.pen, tail);
     // A form that the project fixes: a name with no entry leaves the beam at the AT point.
@@ -46,7 +43,7 @@ fn perform<'t, S: Sheet>(
         return Ok(());
     };
     let entry = table.entry(at);
-    enter(entry, calls, name.bytes).map_err(|fault| Failure { fault, spot })?;
+    enter(entry, calls, name.bytes).map_err(failed)?;
     perform_body(table, &calls.with(&entry.name), work, sheet, &entry.body)
 }
 
@@ -68,11 +65,8 @@ fn perform_body<'t, S: Sheet>(
         match read(Standing::Definition(Home::Outside), &body[start..end + 1]) {
             Err(Stop::Wanting) => {}
             Err(Stop::Wrong(unread)) => {
-                let spot = Spot {
-                    calls: calls.depth(),
-                    offset: start,
-                };
                 let fault = unread.into();
+                let spot = calls.spot(start);
                 return Err(Failure { fault, spot });
             }
             Ok(statement) => {

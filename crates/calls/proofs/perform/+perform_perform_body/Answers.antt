@@ -101,7 +101,7 @@ perform_body-returns-in-Err-Wrong g t c =
     let o = c.args.calls.now in
     let i = ink_of c.loop-end.work.pen (m c.loop-end.sheet) in
     record {
-      after = rw (c.depth.ensures, c.into-fault.ensures) (sym (c.loop-end.invariant.1 ∙ refuses (calls_left o) (entries_of c.args.table.now) (open_of o) c.args.body.now c.loop-end.start c.loop-end.end i c.loop-end.work.count c.loop-end.invariant.0 c.loop-end-test.true (rw c.in-Err-Wrong.field-0-is at c.in-Err-Wrong.ensures).value));
+      after = rw (c.spot-spot.ensures, c.into-fault.ensures) (sym (c.loop-end.invariant.1 ∙ refuses (calls_left o) (entries_of c.args.table.now) (open_of o) c.args.body.now c.loop-end.start c.loop-end.end i c.loop-end.work.count c.loop-end.invariant.0 c.loop-end-test.true (rw c.in-Err-Wrong.field-0-is at c.in-Err-Wrong.ensures).value));
       tied = c.loop-end.invariant.2;
     }
 
