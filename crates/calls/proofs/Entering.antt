@@ -29,7 +29,7 @@ name_by true e x r n h ih p = let q : e ≡ x = cc in sym (ap (λ z. z.name) q) 
 name_by false e x r n h ih p = ih p
 
 pub found_name : (es : List Entry) (n : List ℕ) (x : Entry) → find es n ≡ Some x → x.name ≡ n
-found_name [] n x p = absurd (let z : ◌≡◌ {A = ℕ} 0 1 = cc in omega arith)
+found_name [] n x p = absurd cc
 found_name (e ∷ es) n x p =
     let k : IsBytesEq same_bytes = search rules in
     name_by (same_bytes e.name n) e x (find es n) n (compares_Decides same_bytes k e.name n).0 (found_name es n x) p
@@ -41,7 +41,7 @@ module _ (d : ℕ) (T : List Entry) (ns : List (List ℕ)) (o : ℕ) (i : Ink) (
       let v : f ≡ fault.TooMany = cc in
       let s = spot_at (length ns) o in
       ap (λ x. failed x s i k) v ∙ sym (ap (λ t. cond t (failed fault.TooMany s i k) (acted (bodies d T ns) T s a i (k + 1))) e)
-  barred_by a false e h = absurd (let z : ◌≡◌ {A = ℕ} 0 1 = cc in omega arith)
+  barred_by a false e h = absurd cc
 
   not_act : Some f ≡ Some (fault.Read unread.Misplaced) → failed f (spot_at (length ns) o) i k ≡ failed (fault.Read unread.Misplaced) (spot_at (length ns) o) i k
   not_act h = let v : f ≡ fault.Read unread.Misplaced = cc in ap (λ x. failed x (spot_at (length ns) o) i k) v
@@ -55,14 +55,14 @@ module _ (d : ℕ) (T : List Entry) (ns : List (List ℕ)) (o : ℕ) (i : Ink) (
 
 -- what is not barred is performed and not too much
 few_by : (t : Bool) → None ≡ cond t (Some fault.TooMany) None → t ≡ false
-few_by true h = absurd (let z : ◌≡◌ {A = ℕ} 0 1 = cc in omega arith)
+few_by true h = absurd cc
 few_by false h = refl
 
 pub open_to : (s : Said) (k : ℕ) → None ≡ bar s k → (is_act s ≡ true) × (leb 65536 k ≡ false)
-open_to erase k h = absurd (let z : ◌≡◌ {A = ℕ} 0 1 = cc in omega arith)
-open_to endpic k h = absurd (let z : ◌≡◌ {A = ℕ} 0 1 = cc in omega arith)
-open_to (subhed n x) k h = absurd (let z : ◌≡◌ {A = ℕ} 0 1 = cc in omega arith)
-open_to subend k h = absurd (let z : ◌≡◌ {A = ℕ} 0 1 = cc in omega arith)
+open_to erase k h = absurd cc
+open_to endpic k h = absurd cc
+open_to (subhed n x) k h = absurd cc
+open_to subend k h = absurd cc
 open_to (act a) k h = (refl, few_by (leb 65536 k) h)
 
 -- the call of an entry, by what stands in its way
@@ -103,12 +103,12 @@ module _ (T : List Entry) (ns : List (List ℕ)) (s : Spot) (n : List ℕ) (e : 
       let l : 8 ≤ length ns = leb-true 8 (length ns) r in
       let w : d ≡ 0 = omega arith in
       ap (λ x. failed x s i k) v ∙ sym (simple_calls d p ∙ deep_calls d w q)
-  hindered_by d f true false false p q r z h = absurd (let y : ◌≡◌ {A = ℕ} 0 1 = cc in omega arith)
+  hindered_by d f true false false p q r z h = absurd cc
 
   free_by : (d : ℕ) (a b c : Bool) → is_simple e.header ≡ a → is_among n ns ≡ b → leb 8 (length ns) ≡ c → d ≡ 8 - length ns → None ≡ hindering a b c → inside (d - 1) ≡ calling d
-  free_by d false b c p q r z h = absurd (let y : ◌≡◌ {A = ℕ} 0 1 = cc in omega arith)
-  free_by d true true c p q r z h = absurd (let y : ◌≡◌ {A = ℕ} 0 1 = cc in omega arith)
-  free_by d true false true p q r z h = absurd (let y : ◌≡◌ {A = ℕ} 0 1 = cc in omega arith)
+  free_by d false b c p q r z h = absurd cc
+  free_by d true true c p q r z h = absurd cc
+  free_by d true false true p q r z h = absurd cc
   free_by d true false false p q r z h =
       let l : length ns < 8 = leb-false 8 (length ns) r in
       let w : 0 < d = omega arith in
@@ -159,12 +159,12 @@ module _ (d : ℕ) (T : List Entry) (ns : List (List ℕ)) (o : ℕ) (i : Ink) (
       ap (λ t. cond t (failed fault.TooMany s i k) (acted (bodies d T ns) T s a i (k + 1))) few
 
   plainly : leb 65536 k ≡ false → (s : Said) → is_act s ≡ true → is_call s ≡ false → out_of (spot_at (length ns) o) (plain_effect s i) (k + 1) ≡ perform_said d T ns o s i k
-  plainly few erase a h = absurd (let y : ◌≡◌ {A = ℕ} 0 1 = cc in omega arith)
-  plainly few endpic a h = absurd (let y : ◌≡◌ {A = ℕ} 0 1 = cc in omega arith)
-  plainly few (subhed n x) a h = absurd (let y : ◌≡◌ {A = ℕ} 0 1 = cc in omega arith)
-  plainly few subend a h = absurd (let y : ◌≡◌ {A = ℕ} 0 1 = cc in omega arith)
+  plainly few erase a h = absurd cc
+  plainly few endpic a h = absurd cc
+  plainly few (subhed n x) a h = absurd cc
+  plainly few subend a h = absurd cc
   plainly few (act (plain p)) a h = sym (performs few (plain p))
-  plainly few (act (call n t)) a h = absurd (let y : ◌≡◌ {A = ℕ} 0 1 = cc in omega arith)
+  plainly few (act (call n t)) a h = absurd cc
 
   -- a statement that is no call
   pub does_plain : (s : Said) → None ≡ bar s k → is_call s ≡ false → out_of (spot_at (length ns) o) (plain_effect s i) (k + 1) ≡ perform_said d T ns o s i k

@@ -32,10 +32,7 @@ fn perform<'t, S: Sheet>(
     admit(statement, work.count).map_err(failed)?;
     work.count += 1;
     let Statement::Insts(name, tail) = statement else {
-        return work
-            .pen
-            .perform_plain(sheet, statement)
-            .map_err(failed);
+        return work.pen.perform_plain(sheet, statement).map_err(failed);
     };
     arrive(&mut work.pen, tail);
     // A form that the project fixes: a name with no entry leaves the beam at the AT point.
