@@ -16,6 +16,10 @@ use Rattle.calls.specs.declared.types.Failure.{Failure}
 abbrev pub trouble_of : Failure → Trouble
 trouble_of f = record { fault = f.fault; spot = f.spot }
 
+-- a failure of a statement of the stream itself
+abbrev pub outside : Fault → Failure
+outside f = record { fault = f; spot = spot_at 0 0 }
+
 abbrev pub leaves : Result (Unit {0}) Failure → Work → Meaning → Out
 leaves r w m = record { ink = ink_of w.pen m; count = w.count; refusal = option_map trouble_of (result_err r) }
 

@@ -1,5 +1,6 @@
 // Names, definitions and the table that keeps them.
-ghost use Rattle.std.specs.Prelude.{◌≤◌, vec_len, vec_capacity};
+ghost use Rattle.std.specs.Prelude.{◌≡◌, ◌≤◌, vec_len, vec_capacity};
+ghost use Rattle.calls.specs.Outcomes.{outside};
 
 use arrayvec::ArrayVec;
 use pen::types::Pen;
@@ -39,4 +40,16 @@ pub struct Work {
 pub struct Failure {
     pub fault: Fault,
     pub spot: Spot,
+}
+
+impl From<Fault> for Failure {
+    ghost from_gives = { λ f e. e ≡ outside f };
+
+    // The failure of a statement of the stream itself.
+    fn from(fault: Fault) -> Failure {
+        Failure {
+            fault,
+            spot: Spot::OUTSIDE,
+        }
+    }
 }

@@ -6,6 +6,7 @@ use Rattle.run.specs.declared.types.Refusal.{Refusal}
 use Rattle.run.specs.declared.types.Life.{Life}
 use Rattle.run.specs.declared.types.Life.TheVariants.{Live, Refused}
 use Rattle.run.specs.Runs.{Stance, Drawing, Config, Turn}
+use Rattle.calls.specs.declared.types.Failure.{Failure}
 use Rattle.calls.specs.Tables.{entries_of, entry_of}
 use Rattle.reader.specs.declared.state.State.{State}
 use Rattle.reader.specs.declared.settle.Settled.{Settled}
@@ -30,6 +31,11 @@ drawing_of l h w m = record {
 abbrev pub life_by : Result (Unit {0}) Refusal → Life
 life_by (Ok u) = Live
 life_by (Err e) = Refused e
+
+-- the answer to a statement of the stream whose code stands at a place
+abbrev pub placed : ℕ → Result (Unit {0}) Failure → Result (Unit {0}) Refusal
+placed at (Ok u) = Ok u
+placed at (Err f) = Err (record { fault = f.fault; place = at; spot = f.spot })
 
 -- after a whole statement
 abbrev pub turn_of : Result (Unit {0}) Refusal → State → Meaning → Turn

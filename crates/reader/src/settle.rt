@@ -13,8 +13,8 @@ use sheet::Sheet;
 use statement::types::Stop;
 
 // What the bytes so far came to, where they are not refused.
-#[derive(Clone, Copy)]
-pub enum Settled {
+#[derive(Clone, Copy, Debug, PartialEq, Eq)]
+pub(crate) enum Settled {
     // more bytes are wanted
     More,
     // the statement was obeyed
@@ -23,7 +23,7 @@ pub enum Settled {
 
 impl State {
     // Takes the bytes of a statement so far: it waits for more, or obeys the statement.
-    pub fn settle<S: Sheet>(
+    pub(crate) fn settle<S: Sheet>(
         &mut self,
         sheet: &mut S,
         bytes: &[u8],
@@ -36,7 +36,12 @@ impl State {
     {
         match read(self.standing, bytes) {
             Ok(statement) => {
-                self.obey(sheet, statement, bytes, at)?;
+                self.obey(sheet, statement, bytes)
+                    .map_err(|failure| Refusal {
+                        fault: failure.fault,
+                        place: at,
+                        spot: failure.spot,
+                    })?;
                 Ok(Settled::Done)
             }
             Err(Stop::Wanting) => Ok(Settled::More),

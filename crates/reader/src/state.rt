@@ -8,11 +8,11 @@ use statement::types::Standing;
 
 // Where the reader stands, the finished pictures, what performing changes, the entries, and the definition that is being recorded.
 #[derive(Drop)]
-pub struct State {
-    pub standing: Standing,
-    pub pictures: usize,
-    pub work: Work,
-    pub table: Table,
-    pub draft: Definition,
+pub(crate) struct State {
+    pub(crate) standing: Standing,
+    pub(crate) pictures: usize,
+    pub(crate) work: Work,
+    pub(crate) table: Table,
+    pub(crate) draft: Definition,
     ghost roomy: { has_room standing (letters_of draft.name) (entries_of table) ≡ true },
 }
