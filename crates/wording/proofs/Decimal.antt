@@ -8,12 +8,13 @@ use Rattle.std.specs.Str.Parse.{ParsesUnsigned}
 use Rattle.std.proofs.lemmas.Fmt.{decimal-digits_value, IsAscii-from_digits}
 use Rattle.std.proofs.lemmas.Str.{IsUtf8-from_ascii}
 use Rattle.std.proofs.lemmas.Str.Parse.{IsNumeralModel, numerals_by_fold, tells_all_ascii_digits, digits_value_short, parse_gives}
+use Rattle.std.proofs.lemmas.Option.{cond_some}
 use Rattle.std.proofs.lemmas.Bool.{and_parts, leb-true}
 use Rattle.std.proofs.lemmas.Bool.Decides.{nat_tests}
 use Rattle.wording.specs.Numerals.{is_short, number_after, number_in, up_to, value_in, negated, unsigned, signed_in, coordinate_in}
 use Rattle.wording.specs.Texts.{given, behind}
 use Rattle.wording.proofs.Fronts.{front_behind}
-use Rattle.wording.proofs.Tables.{come, passed, same}
+use Rattle.wording.proofs.Tables.{come}
 
 abbrev pub sum : ℕ → List ℕ → ℕ
 sum n [] = n
@@ -53,18 +54,19 @@ parsed ds r s d h =
 pub digits_utf8 : (ds : List ℕ) → all_ascii_digits ds ≡ true → IsUtf8 ds
 digits_utf8 ds d = IsUtf8-from_ascii ds (IsAscii-from_digits ds (own.to ds d))
 
+number_once : (ds : List ℕ) → number_in ds ≡ cond (is_short ds && all_ascii_digits ds) (Some (sum 0 ds)) None
+number_once ds = ap (λ o. cond (is_short ds) o None) (number_is 0 ds) ∙ elim (is_short ds) as (λ b. cond b (cond (all_ascii_digits ds) (Some (sum 0 ds)) None) None ≡ cond (b && all_ascii_digits ds) (Some (sum 0 ds)) None) [ true ↦ refl | false ↦ refl ]
+
 pub number_written : (ds : List ℕ) (n : ℕ) → number_in ds ≡ Some n → decimal n ≡ ds
 number_written ds n e =
-    let p = passed (is_short ds) (number_after 0 ds) n e in
-    let q = passed (all_ascii_digits ds) (Some (sum 0 ds)) n (sym (number_is 0 ds) ∙ p.1) in
-    let low : sum 0 ds < 10 ^ 5 = digits_value_short own ds 5 q.0 (few ds p.0) in
-    ap decimal (sym (same (sum 0 ds) n q.1)) ∙ decimal-digits_value own ds q.0 (some_digit ds p.0) (first_digit ds p.0) (omega arith)
+    let q = cond_some (is_short ds && all_ascii_digits ds) (sum 0 ds) n (sym (number_once ds) ∙ e) in
+    let p = and_parts (is_short ds) (all_ascii_digits ds) q.0 in
+    let low : sum 0 ds < 10 ^ 5 = digits_value_short own ds 5 p.1 (few ds p.0) in
+    ap decimal (sym q.1) ∙ decimal-digits_value own ds p.1 (some_digit ds p.0) (first_digit ds p.0) (omega arith)
 
 pub value_written : (ds : List ℕ) (v : ℕ) → value_in ds ≡ Some v → decimal v ≡ ds
 value_written ds v e =
-    let p = come (number_in ds) (up_to 255) v e in
-    let q = passed (leb p.0 255) (Some p.0) v p.2 in
-    ap decimal (sym (same p.0 v q.1)) ∙ number_written ds p.0 p.1
+    let p = come (number_in ds) (up_to 255) v e in ap decimal (sym (cond_some (leb p.0 255) p.0 v p.2).1) ∙ number_written ds p.0 p.1
 
 signed_negated : (n : ℕ) → 1 ≤ n → signed_decimal (neg_ℤ (pos n)) ≡ 45 ∷ decimal n
 signed_negated zero h = absurd (omega arith)
@@ -73,15 +75,13 @@ signed_negated (suc n) h = refl
 below_zero : (ds : List ℕ) (z : ℤ) → given (number_in ds) negated ≡ Some z → signed_decimal z ≡ 45 ∷ ds
 below_zero ds z e =
     let p = come (number_in ds) negated z e in
-    let q = passed (leb 1 p.0 && leb p.0 32768) (Some (neg_ℤ (pos p.0))) z p.2 in
-    ap signed_decimal (sym (same (neg_ℤ (pos p.0)) z q.1)) ∙ signed_negated p.0 (leb-true 1 p.0 (and_parts (leb 1 p.0) (leb p.0 32768) q.0).0)
+    let q = cond_some (leb 1 p.0 && leb p.0 32768) (neg_ℤ (pos p.0)) z p.2 in
+    ap signed_decimal (sym q.1) ∙ signed_negated p.0 (leb-true 1 p.0 (and_parts (leb 1 p.0) (leb p.0 32768) q.0).0)
     ∙ ap (λ t. 45 ∷ t) (number_written ds p.0 p.1)
 
 from_zero : (ds : List ℕ) (z : ℤ) → given (number_in ds) unsigned ≡ Some z → signed_decimal z ≡ ds
 from_zero ds z e =
-    let p = come (number_in ds) unsigned z e in
-    let q = passed (leb p.0 32767) (Some (pos p.0)) z p.2 in
-    ap signed_decimal (sym (same (pos p.0) z q.1)) ∙ number_written ds p.0 p.1
+    let p = come (number_in ds) unsigned z e in ap signed_decimal (sym (cond_some (leb p.0 32767) (pos p.0) z p.2).1) ∙ number_written ds p.0 p.1
 
 pub coordinate_written : (cs : List ℕ) (z : ℤ) → coordinate_in cs ≡ Some z → signed_decimal z ≡ cs
 coordinate_written cs z e = go (behind (codes "-") cs) refl e

@@ -1,23 +1,15 @@
 -- A lawful statement in bytes has words that can be read.
-use Rattle.std.proofs.Common.{◌≡◌, ℕ, Bool, true, false, ◌&&◌, leb, List, [], ◌∷◌, length, ℤ, pos, negsuc, Some, None, Option, refl, arith}
+use Rattle.std.proofs.Common.{◌≡◌, ℕ, true, ◌&&◌, leb, List, [], ◌∷◌, length, ℤ, pos, negsuc, Some, None, Option, arith}
 use Rattle.std.proofs.lemmas.Bool.{and_parts, leb-true}
 use Rattle.std.proofs.lemmas.Bool.Decides.{nat_tests}
 use Rattle.statement.specs.declared.layout.Aim.{Aim}
 use Rattle.statement.specs.declared.layout.Aim.TheVariants as aim
-use Rattle.statement.specs.declared.types.Fault.{Fault}
 use Rattle.statement.specs.declared.types.Fault.TheVariants as fault
 use Rattle.statement.specs.Reading.{lawful, is_text, is_name_code, are_name_codes, is_name, lawful_at, lawful_tail, is_as_name, named_tail}
 use Rattle.statement.specs.Statements.{CallTail, empty, coded, Plain, null, travel, letters, escape, assign, mark, movemk, drawmk, plain, call, Said, erase, endpic, subhed, subend, act}
+use Rattle.spelling.proofs.Spelt.{neither, not_one}
 use Rattle.spelling.specs.Spelling.{first_of, unless, tail_fits, Lawful}
 use Rattle.wording.specs.Laws.{AreBytes, Is16Bits, Spaceless, AsWordable, AtWordable, TailWordable, PlainWordable, Wordable, PlainInBytes, InBytes}
-
-first_none : (f g : Option Fault) → first_of f g ≡ None → (f ≡ None) × (g ≡ None)
-first_none None g e = (refl, e)
-first_none (Some f) g e = absurd (cc)
-
-unless_none : (b : Bool) (f : Fault) → unless b f ≡ None → b ≡ true
-unless_none true f e = refl
-unless_none false f e = absurd (cc)
 
 codes_spaceless : (n : List ℕ) → are_name_codes n ≡ true → Spaceless n
 codes_spaceless [] e = tt
@@ -70,17 +62,17 @@ call_wordable n t e =
     let named = unless (is_name n && named_tail t) fault.WrongCharacter in
     let lawfully = unless (lawful_tail t) fault.WrongCoordinate in
     let fitting = unless (tail_fits t) fault.WrongLayout in
-    let p = first_none (unless (leb (length n) 8) fault.TooLong) (first_of fitting (first_of lawfully named)) e in
-    let q = first_none fitting (first_of lawfully named) p.1 in
-    let r = first_none lawfully named q.1 in
-    let m = and_parts (is_name n) (named_tail t) (unless_none (is_name n && named_tail t) fault.WrongCharacter r.1) in
-    (name_spaceless n m.0, tail_wordable t (unless_none (lawful_tail t) fault.WrongCoordinate r.0) m.1)
+    let p = neither (leb (length n) 8) fault.TooLong (first_of fitting (first_of lawfully named)) e in
+    let q = neither (tail_fits t) fault.WrongLayout (first_of lawfully named) p.1 in
+    let r = neither (lawful_tail t) fault.WrongCoordinate named q.1 in
+    let m = and_parts (is_name n) (named_tail t) (not_one (is_name n && named_tail t) fault.WrongCharacter r.1) in
+    (name_spaceless n m.0, tail_wordable t r.0 m.1)
 
 plain_wordable : (p : Plain) → Lawful (act (plain p)) → PlainInBytes p → PlainWordable p
 plain_wordable null e b = tt
-plain_wordable (travel t a x y) e b = pair_fits a x y (unless_none (lawful a x && lawful a y) fault.WrongCoordinate e)
+plain_wordable (travel t a x y) e b = pair_fits a x y (not_one (lawful a x && lawful a y) fault.WrongCoordinate e)
 plain_wordable (letters m t) e b =
-    text_bytes t (unless_none (is_text t) fault.WrongCharacter (first_none (unless (leb (length t) 512) fault.TooLong) (unless (is_text t) fault.WrongCharacter) e).1)
+    text_bytes t (not_one (is_text t) fault.WrongCharacter (neither (leb (length t) 512) fault.TooLong (unless (is_text t) fault.WrongCharacter) e).1)
 plain_wordable (escape v t) e b = b
 plain_wordable (assign s v) e b = b
 plain_wordable mark e b = tt
@@ -91,7 +83,7 @@ pub wordable : (s : Said) → Lawful s → InBytes s → Wordable s
 wordable erase e b = tt
 wordable endpic e b = tt
 wordable (subhed n h) e b =
-    name_spaceless n (unless_none (is_name n) fault.WrongCharacter (first_none (unless (leb (length n) 8) fault.TooLong) (unless (is_name n) fault.WrongCharacter) e).1)
+    name_spaceless n (not_one (is_name n) fault.WrongCharacter (neither (leb (length n) 8) fault.TooLong (unless (is_name n) fault.WrongCharacter) e).1)
 wordable subend e b = tt
 wordable (act (plain p)) e b = plain_wordable p e b
 wordable (act (call n t)) e b = call_wordable n t e

@@ -1,5 +1,6 @@
 -- A string between quotes is read in the one form in which it is written.
 use Rattle.std.proofs.Common.{◌≡◌, ℕ, ◌+◌, ◌-◌, ◌*◌, ◌/◌, ◌%◌, ◌<◌, Bool, true, false, cond, ◌&&◌, eqb, leb, List, [], ◌∷◌, ◌++◌, Some, None, Option, sym, refl, ap, ◌∙◌, arith}
+use Rattle.std.proofs.lemmas.Option.{same_Some}
 use Rattle.std.specs.List.{flat_map}
 use lib.Pow.{high, low}
 use Rattle.std.proofs.lemmas.List.{append_assoc}
@@ -7,7 +8,6 @@ use Rattle.std.proofs.lemmas.Bool.{eqb-true, cond-true, cond-false}
 use Rattle.std.proofs.lemmas.Bool.Decides.{nat_tests}
 use Rattle.listing.specs.Lines.{hex_digit, is_plain, quoted_byte}
 use Rattle.wording.specs.Quotes.{Spot, between, slashed, at_high, at_low, goes, stands, closes, hex_in, high_turn, low_turn, turn_at, before, turned, unquoted_at, unquoted}
-use Rattle.wording.proofs.Tables.{same}
 
 abbrev Found : Type 0
 Found = List ℕ × List ℕ
@@ -27,18 +27,18 @@ pub hex_written : (c d : ℕ) → hex_in c ≡ Some d → (hex_digit d ≡ c) ×
 hex_written c d e = go (leb 48 c && leb c 57) refl e
   where
     letter : (b : Bool) → (leb 97 c && leb c 102) ≡ b → cond b (Some (c - 87)) None ≡ Some d → (hex_digit d ≡ c) × (d < 16)
-    letter true h f = let q : c - 87 ≡ d = same (c - 87) d f in (grind (arith, nat_tests), grind (arith, nat_tests))
+    letter true h f = let q : c - 87 ≡ d = same_Some (c - 87) d f in (grind (arith, nat_tests), grind (arith, nat_tests))
     letter false h f = absurd (cc)
 
     go : (b : Bool) → (leb 48 c && leb c 57) ≡ b → cond b (Some (c - 48)) (cond (leb 97 c && leb c 102) (Some (c - 87)) None) ≡ Some d → (hex_digit d ≡ c) × (d < 16)
-    go true h f = let q : c - 48 ≡ d = same (c - 48) d f in (grind (arith, nat_tests), grind (arith, nat_tests))
+    go true h f = let q : c - 48 ≡ d = same_Some (c - 48) d f in (grind (arith, nat_tests), grind (arith, nat_tests))
     go false h f = letter (leb 97 c && leb c 102) refl f
 
 -- a byte before what was found
 before_come : (b : ℕ) (o : Option Found) (t after : List ℕ) → before (b ∷ []) o ≡ Some (t, after) → (u : List ℕ) × (o ≡ Some (u, after)) × (b ∷ u ≡ t)
 before_come b None t after e = absurd (cc)
 before_come b (Some p) t after e =
-    let q : ◌≡◌ {A = Found} (b ∷ p.0, p.1) (t, after) = same (b ∷ p.0, p.1) (t, after) e in (p.0, ap (λ z. Some (p.0, z)) (ap (λ z. z.1) q), ap (λ z. z.0) q)
+    let q : ◌≡◌ {A = Found} (b ∷ p.0, p.1) (t, after) = same_Some (b ∷ p.0, p.1) (t, after) e in (p.0, ap (λ z. Some (p.0, z)) (ap (λ z. z.1) q), ap (λ z. z.0) q)
 
 -- one character more, where what follows it is as it is written
 module _ (c : ℕ) (cs t after : List ℕ) (k : Spot → Option Found) (ih : (z : Spot) → (u : List ℕ) → k z ≡ Some (u, after) → held z ++ cs ≡ writing u after) where
@@ -61,7 +61,7 @@ module _ (c : ℕ) (cs t after : List ℕ) (k : Spot → Option Found) (ih : (z 
 
   between_written : (x : Bool) → eqb c 34 ≡ x → turned (cond x (Some closes) (cond (eqb c 92) (Some (goes slashed)) (cond (is_plain c) (Some (stands c)) None))) cs k ≡ Some (t, after) → c ∷ cs ≡ writing t after
   between_written true h e =
-      let q : ◌≡◌ {A = Found} ([], cs) (t, after) = same ([], cs) (t, after) e in ap (λ z. z ∷ cs) (eqb-true c 34 h) ∙ ap (λ z. writing z.0 z.1) q
+      let q : ◌≡◌ {A = Found} ([], cs) (t, after) = same_Some ([], cs) (t, after) e in ap (λ z. z ∷ cs) (eqb-true c 34 h) ∙ ap (λ z. writing z.0 z.1) q
   between_written false h e = slash_written (eqb c 92) refl e
 
   letter_written : (x : Bool) → eqb c 120 ≡ x → turned (cond x (Some (goes at_high)) None) cs k ≡ Some (t, after) → 92 ∷ c ∷ cs ≡ writing t after

@@ -1,5 +1,6 @@
 -- A line that reads as a statement is the words of that statement.
 use Rattle.std.proofs.Common.{◌≡◌, ℕ, List, [], ◌∷◌, ◌++◌, ℤ, Some, None, codes, decimal, Option, sym, refl, ap, ◌∙◌}
+use Rattle.std.proofs.lemmas.Option.{same_Some}
 use Rattle.std.specs.List.{flat_map}
 use Rattle.std.specs.Fmt.{signed_decimal}
 use Rattle.std.proofs.lemmas.List.{append_assoc}
@@ -17,7 +18,7 @@ use Rattle.wording.specs.Words.{words, names, headers, ended, second_in, first_i
 use Rattle.wording.proofs.Decimal.{value_written, coordinate_written}
 use Rattle.wording.proofs.Fronts.{word_rest, front_behind}
 use Rattle.wording.proofs.Quoting.{writing, string_written}
-use Rattle.wording.proofs.Tables.{come, same, entry_named}
+use Rattle.wording.proofs.Tables.{come, entry_named}
 
 -- the name of the code that has such arguments
 abbrev pub layout_name : Layout → List ℕ
@@ -39,7 +40,7 @@ header_written : (n : List ℕ) (h : Header) → entry headers n ≡ Some h → 
 header_written n h e = entry_named header_text headers (refl, (refl, (refl, tt))) n h e
 
 ended_is : {A : Type 0} (a b : A) (cs : List ℕ) → ended a cs ≡ Some b → (a ≡ b) × ([] ≡ cs)
-ended_is a b [] e = (same a b e, refl)
+ended_is a b [] e = (same_Some a b e, refl)
 ended_is a b (c ∷ cs) e = absurd (cc)
 
 -- a word and what follows it
@@ -50,7 +51,7 @@ second_written : (x : ℤ) (cs : List ℕ) (p : ℤ × ℤ) → second_in x cs �
 second_written x cs p e =
     let t = come (behind (codes " ") cs) (λ t. given (coordinate_in t) (λ y. Some (x, y))) p e in
     let y = come (coordinate_in t.0) (λ y. Some (x, y)) p t.2 in
-    let q : ◌≡◌ {A = ℤ × ℤ} (x, y.0) p = same (x, y.0) p y.2 in
+    let q : ◌≡◌ {A = ℤ × ℤ} (x, y.0) p = same_Some (x, y.0) p y.2 in
     (ap (λ z. 32 ∷ signed_decimal z.1) (sym q) ∙ ap (λ z. 32 ∷ z) (coordinate_written t.0 y.0 y.1) ∙ front_behind (codes " ") cs t.0 t.1, ap (λ z. z.0) q)
 
 pair_written : (cs : List ℕ) (p : ℤ × ℤ) → pair_in cs ≡ Some p → pair_text p.0 p.1 ≡ cs
@@ -72,15 +73,15 @@ point_written cs p e =
     let r = come (behind (codes " AT") cs) pair_in p e in ap (λ z. codes " AT" ++ z) (pair_written r.0 p r.2) ∙ front_behind (codes " AT") cs r.0 r.1
 
 at_written : (cs : List ℕ) (at : Option (ℤ × ℤ)) → at_in cs ≡ Some at → at_text at ≡ cs
-at_written [] at e = ap at_text (sym (same None at e))
-at_written (c ∷ cs) at e = let p = come (point_in (c ∷ cs)) (λ p. Some (Some p)) at e in ap at_text (sym (same (Some p.0) at p.2)) ∙ point_written (c ∷ cs) p.0 p.1
+at_written [] at e = ap at_text (sym (same_Some None at e))
+at_written (c ∷ cs) at e = let p = come (point_in (c ∷ cs)) (λ p. Some (Some p)) at e in ap at_text (sym (same_Some (Some p.0) at p.2)) ∙ point_written (c ∷ cs) p.0 p.1
 
 as_written : (cs q : List ℕ) (t : CallTail) → behind (codes " AS " ++ (34 ∷ [])) cs ≡ Some q → given (unquoted q) as_tail ≡ Some t → tail_text t ≡ cs
 as_written cs q t f e =
     let p = come (unquoted q) as_tail t e in
     let n = p.0.0 in
     let at = come (at_in p.0.1) (λ at. Some (coded (Some n) at)) t p.2 in
-    ap tail_text (sym (same (coded (Some n) at.0) t at.2))
+    ap tail_text (sym (same_Some (coded (Some n) at.0) t at.2))
     ∙ ap (λ z. codes " AS " ++ (34 ∷ z)) (append_assoc (flat_map quoted_byte n) (34 ∷ []) (at_text at.0) ∙ ap (writing n) (at_written p.0.1 at.0 at.1) ∙ string_written q p.0 p.1)
     ∙ front_behind (codes " AS " ++ (34 ∷ [])) cs q f
 
@@ -88,10 +89,10 @@ bare_written : (cs : List ℕ) (t : CallTail) (o : Option (List ℕ)) → behind
 bare_written cs t (Some more) f e =
     let m = ended_is (coded None None) t more e in ap tail_text (sym m.0) ∙ ap (λ z. codes " CODE" ++ z) m.1 ∙ front_behind (codes " CODE") cs more f
 bare_written cs t None f e =
-    let p = come (point_in cs) (λ p. Some (coded None (Some p))) t e in ap tail_text (sym (same (coded None (Some p.0)) t p.2)) ∙ point_written cs p.0 p.1
+    let p = come (point_in cs) (λ p. Some (coded None (Some p))) t e in ap tail_text (sym (same_Some (coded None (Some p.0)) t p.2)) ∙ point_written cs p.0 p.1
 
 tail_written : (cs : List ℕ) (t : CallTail) → tail_in cs ≡ Some t → tail_text t ≡ cs
-tail_written [] t e = ap tail_text (sym (same empty t e))
+tail_written [] t e = ap tail_text (sym (same_Some empty t e))
 tail_written (c ∷ cs) t e = go (behind (codes " AS " ++ (34 ∷ [])) (c ∷ cs)) refl e
   where
     go : (o : Option (List ℕ)) → behind (codes " AS " ++ (34 ∷ [])) (c ∷ cs) ≡ o → coded_tail (c ∷ cs) o ≡ Some t → tail_text t ≡ c ∷ cs
@@ -111,7 +112,7 @@ bare_words bare.Drawmk = refl
 module _ (s : Said) where
   -- a statement that was made, with its words
   made : (t : Said) (name cs text : List ℕ) → Some t ≡ Some s → words t ≡ name ++ text → text ≡ cs → words s ≡ name ++ cs
-  made t name cs text e w f = ap words (sym (same t s e)) ∙ w ∙ ap (λ z. name ++ z) f
+  made t name cs text e w f = ap words (sym (same_Some t s e)) ∙ w ∙ ap (λ z. name ++ z) f
 
   escape_written : (cs : List ℕ) → given (behind (codes " ") cs) escape_in ≡ Some s → words s ≡ codes "ESCDEV" ++ cs
   escape_written cs e =

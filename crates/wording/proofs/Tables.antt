@@ -2,6 +2,7 @@
 use Rattle.std.proofs.Common.{◌≡◌, ℕ, Bool, true, false, cond, List, [], ◌∷◌, ◌++◌, Some, None, Option, sym, refl, ap, ◌∙◌}
 use Rattle.std.specs.Option.{option_or}
 use Rattle.std.specs.List.{AllByRecursion}
+use Rattle.std.proofs.lemmas.Option.{same_Some}
 use Rattle.std.proofs.lemmas.Slice.Eq.{bytes_eq-Decides}
 use Rattle.std.specs.Str.{bytes_eq}
 use Rattle.wording.specs.Texts.{given, entry}
@@ -17,18 +18,11 @@ pub come : {A B : Type 0} (o : Option A) (k : A → Option B) (b : B) → given 
 come None k b e = absurd (cc)
 come (Some a) k b e = (a, refl, e)
 
-pub passed : {A : Type 0} (t : Bool) (o : Option A) (a : A) → cond t o None ≡ Some a → (t ≡ true) × (o ≡ Some a)
-passed true o a e = (refl, e)
-passed false o a e = absurd (cc)
-
-pub same : {A : Type 0} (a b : A) → Some a ≡ Some b → a ≡ b
-same a b e = cc
-
 -- a table of names, in which each thing stands under its own
 pub entry_named : {A : Type 0} (name : A → List ℕ) (es : List (List ℕ × A)) → AllByRecursion (λ e. name e.1 ≡ e.0) es → (n : List ℕ) (a : A) → entry es n ≡ Some a → name a ≡ n
 entry_named name [] all n a e = absurd (cc)
 entry_named {A} name (x ∷ es) all n a e = go (bytes_eq x.0 n) refl e (entry_named name es all.1 n a)
   where
     go : (t : Bool) → bytes_eq x.0 n ≡ t → cond t (Some x.1) (entry es n) ≡ Some a → (entry es n ≡ Some a → name a ≡ n) → name a ≡ n
-    go true s f ih = ap name (sym (same x.1 a f)) ∙ all.0 ∙ (bytes_eq-Decides x.0 n).0 s
+    go true s f ih = ap name (sym (same_Some x.1 a f)) ∙ all.0 ∙ (bytes_eq-Decides x.0 n).0 s
     go false s f ih = ih f

@@ -1,5 +1,6 @@
 -- The words of a statement read as that statement.
 use Rattle.std.proofs.Common.{◌≡◌, ℕ, ◌<◌, List, [], ◌∷◌, ◌++◌, ℤ, Some, None, codes, decimal, Option, sym, refl, ap, ◌∙◌, arith}
+use Rattle.std.proofs.lemmas.Option.{same_Some}
 use Rattle.std.specs.List.{flat_map}
 use Rattle.std.specs.Fmt.{signed_decimal}
 use Rattle.std.proofs.lemmas.List.{append_assoc}
@@ -24,7 +25,6 @@ use Rattle.wording.specs.Words.{words, headers, ended, second_in, pair_in, strin
 use Rattle.wording.proofs.Fronts.{word_append, rest_append}
 use Rattle.wording.proofs.Lawfully.{wordable}
 use Rattle.wording.proofs.Readings.{value_read, coordinate_read, decimal_spaceless, signed_spaceless, string_read}
-use Rattle.wording.proofs.Tables.{same}
 
 pair_read : (x y : ℤ) → Is16Bits x → Is16Bits y → pair_in (pair_text x y) ≡ Some (x, y)
 pair_read x y hx hy =
@@ -134,4 +134,4 @@ pub lawful_read : LawfulRead
 lawful_read s l b = words_read s (wordable s l b)
 
 pub lawful_apart : LawfulApart
-lawful_apart s t ls bs lt bt e = same s t (sym (lawful_read s ls bs) ∙ ap worded e ∙ lawful_read t lt bt)
+lawful_apart s t ls bs lt bt e = same_Some s t (sym (lawful_read s ls bs) ∙ ap worded e ∙ lawful_read t lt bt)

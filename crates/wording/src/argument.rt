@@ -14,7 +14,7 @@ use statement::layout::{Bare, Layout};
 use statement::types::{Part, Statement};
 
 // A part of what was read.
-fn part(bytes: &[u8]) -> Part<'_>
+pub(crate) fn part(bytes: &[u8]) -> Part<'_>
     ensures { bytes_of result ≡ bytes.now }
 {
     Part { at: 0, bytes }
@@ -25,20 +25,14 @@ fn string_in(line: Line<'_>) -> Option<Part<'_>>
     ensures { option_map bytes_of result ≡ string_in line.entry.text.now }
 {
     let quoted = line.after(b" \"")?.unquote()?;
-    match quoted.after {
-        [] => Some(part(quoted.bytes)),
-        _ => None,
-    }
+    quoted.after.is_empty().then_some(part(quoted.bytes))
 }
 
 // The statement of a code alone.
 fn bare_in<'a>(bare: Bare, text: &[u8]) -> Option<Statement<'a>>
     ensures { option_map said_by result ≡ ended (alone bare) text.now }
 {
-    match text {
-        [] => Some(Statement::from(bare)),
-        _ => None,
-    }
+    text.is_empty().then_some(Statement::from(bare))
 }
 
 // The statement of a value and a string.

@@ -31,10 +31,7 @@ fn number_in(text: &[u8]) -> Option<u32>
     if !is_short(text) || !are_digits(text) {
         return None;
     }
-    match str::from_utf8(text) {
-        Ok(digits) => digits.parse().ok(),
-        Err(_) => None,
-    }
+    str::from_utf8(text).ok()?.parse().ok()
 }
 
 // The value that a text writes, if it is one.

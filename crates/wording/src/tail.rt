@@ -5,11 +5,12 @@ ghost use Rattle.statement.specs.Views.{tail_said};
 ghost use Rattle.wording.specs.Words.{pair_in, point_in, at_in, as_tail, bare_tail, tail_in};
 ghost use Rattle.wording.specs.Texts.{behind};
 
+use crate::argument::part;
 use crate::line::Line;
 use crate::number::coordinate_in;
 use crate::quote::Quoted;
 use crate::split::{after, split_word};
-use statement::types::{Part, Tail};
+use statement::types::Tail;
 
 // Two coordinates, each after a space.
 pub(crate) fn pair_in(text: &[u8]) -> Option<(i16, i16)>
@@ -43,14 +44,8 @@ fn as_tail(quoted: Quoted<'_>) -> Option<Tail<'_>>
     ensures { option_map tail_said result ≡ as_tail (quoted.entry.bytes.now, quoted.entry.after.now) }
 {
     let at = at_in(quoted.after)?;
-    let name = Part {
-        at: 0,
-        bytes: quoted.bytes,
-    };
-    Some(Tail::Coded {
-        as_name: Some(name),
-        at,
-    })
+    let as_name = Some(part(quoted.bytes));
+    Some(Tail::Coded { as_name, at })
 }
 
 // The tail that is a code byte alone, or begins with its AT point.

@@ -1,4 +1,4 @@
-use Rattle.std.proofs.Common.{cond, None, sym, ap, ◌∙◌, rules}
+use Rattle.std.proofs.Common.{◌≡◌, cond, None, sym, ap, ◌∙◌, rules}
 use Rattle.wording.specs.Numerals.{number_after}
 use Rattle.wording.proofs.Decimal.{no_number, parsed, digits_utf8}
 use Rattle.wording.proofs.number.number_in.Goals as goal
@@ -10,9 +10,12 @@ returns-then-not-is_short c =
       | goal.then-not-is_short-via-else-not-is_short+then-not-are_digits w ↦ no_number c.args.text.now (sym w.if-not-are_digits.ensures)
     ]
 
-pub returns-in-Ok : goal.returns-in-Ok
-returns-in-Ok c =
-    c.ok.ensures.value ∙ parsed c.args.text.now c.parse.result (search rules) (search rules) (rw c.in-Ok.ensures.cases.0 at c.parse.ensures.value.0)
+pub returns-in_err-ok : goal.returns-in_err-ok
+returns-in_err-ok c =
+    let u = digits_utf8 c.args.text.now (search rules) in
+    search (rules, u)
 
-pub returns-in-Err : goal.returns-in-Err
-returns-in-Err c = absurd (c.in-Err.ensures.cases.0 (digits_utf8 c.args.text.now (search rules)))
+pub returns : goal.returns
+returns c =
+    let is : c.in_ok-ok.field-0.now ≡ c.args.text.now = search rules in
+    c.ok-2.ensures.value ∙ parsed c.args.text.now c.parse.result (search rules) (search rules) (rw is at c.parse.ensures.value.0)
