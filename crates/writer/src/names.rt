@@ -1,11 +1,10 @@
 // The names defined so far.
-ghost use Rattle.std.specs.Prelude.{◌≡◌, ◌≤◌, false, [], length};
+ghost use Rattle.std.specs.Prelude.{◌≡◌, ◌≤◌, false, length};
 ghost use Rattle.std.specs.List.{list_any};
 ghost use Rattle.std.specs.Str.{bytes_eq};
 ghost use Rattle.writer.specs.Names.{letters, known, is_known, with_name, is_one_too_many};
 
 use crate::types::{Name, Names};
-use arrayvec::ArrayVec;
 
 // Whether one of these names has these characters.
 fn is_among(names: &[Name], name: &[u8]) -> bool
@@ -15,15 +14,6 @@ fn is_among(names: &[Name], name: &[u8]) -> bool
 }
 
 impl Names {
-    // No name.
-    pub(crate) fn none() -> Names
-        ensures { known result ≡ [] }
-    {
-        Names {
-            each: ArrayVec::new(),
-        }
-    }
-
     // Whether a name is known.
     fn has(&self, name: &[u8]) -> bool
         ensures { result ≡ is_known name.now (known self.now) }

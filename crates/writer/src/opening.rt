@@ -9,10 +9,9 @@ ghost use Rattle.writer.specs.Answers.{make_answer, picture_answer, definition_a
 use crate::faults::heading_of;
 use crate::state::{Slip, Writer};
 use crate::types::{Names, Opened, Refusal};
+use spelling::code::code_of;
 use statement::limits::LONGEST_STREAM;
-
-// The code of ERASE.
-const ERASE: u8 = 1;
+use statement::types::Statement;
 
 // Whether a writer may be made over a buffer.
 pub fn ask(buffer: &[u8]) -> Result<(), Refusal>
@@ -36,7 +35,7 @@ pub fn make<'a>(buffer: &'a mut [u8]) -> Writer<'a>
     Writer {
         buffer,
         used: 0,
-        names: Names::none(),
+        names: Names::default(),
     }
 }
 
@@ -85,7 +84,7 @@ impl<'a> Writer<'a> {
         ensures bytes { result.buffer.now ≡ sets self.entry.buffer.now self.entry.used (spell erase) }
         ensures tied { result.buffer.ghost_name ≡ self.entry.buffer.ghost_name }
     {
-        self.open(&[ERASE])
+        self.open(&[code_of(&Statement::Erase)])
     }
 
     // Whether a definition of this name and header may be opened; the header is any byte, since a wrong one is refused too.

@@ -6,6 +6,8 @@ ghost use Rattle.writer.specs.Answers.{closing};
 ghost use Rattle.writer.specs.Bodies.{body_start};
 
 use crate::types::{Names, Opened};
+use spelling::code::code_of;
+use statement::types::Statement;
 
 // A writer: nothing is open.
 #[derive(Drop)]
@@ -17,7 +19,7 @@ pub struct Writer<'a> {
     ghost few: { length buffer.now ≤ 16777216 },
 }
 
-// A slip: a picture or a definition is open, and one byte is free for its closing.
+// A slip: a picture or a definition is open, and one byte is free for its closing; it has the fields of a writer, by which the clauses speak of both.
 pub struct Slip<'a> {
     pub(crate) buffer: &'a mut [u8],
     pub(crate) used: usize,
@@ -74,10 +76,10 @@ impl<'a> Slip<'a> {
             names,
             opened,
         } = self;
-        buffer[used] = match opened {
-            Opened::Picture => 10,
-            Opened::Definition(_) => 16,
-        };
+        buffer[used] = code_of(match opened {
+            Opened::Picture => &Statement::Endpic,
+            Opened::Definition(_) => &Statement::Subend,
+        });
         Writer {
             buffer,
             used: used + 1,

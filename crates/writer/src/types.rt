@@ -31,7 +31,7 @@ const MOST_NAMES: usize = 32;
 pub(crate) type Name = ArrayVec<u8, LONGEST_NAME>;
 
 // The names defined so far, each once.
-#[derive(Drop)]
+#[derive(Default, Drop)]
 pub(crate) struct Names {
     pub(crate) each: ArrayVec<Name, MOST_NAMES>,
 }
