@@ -1,5 +1,5 @@
 // The points of a line.
-ghost use Rattle.std.specs.Prelude.{◌≡◌, ◌<◌, ◌≤◌, unsigned_abs};
+ghost use Rattle.std.specs.Prelude.{◌≡◌, ◌+◌, ◌<◌, ◌≤◌, unsigned_abs};
 ghost use Rattle.geometry.specs.Lines.{steps_of, rounded, along, point_of, Near};
 ghost use Rattle.geometry.specs.Places.{point_pixel};
 
@@ -81,6 +81,13 @@ impl Line {
         ensures few { result ≤ 16384 }
     {
         self.steps
+    }
+
+    // How many points the line has.
+    pub fn points(&self) -> u32
+        ensures { result ≡ steps_of self.now.from self.now.to + 1 }
+    {
+        1 + self.steps
     }
 
     // The point k of the line, or its last point where k is past its steps.

@@ -28,7 +28,8 @@ no_letter n at code z h =
     (λ row. none_all (letter_inks_at n at code z row) 5
     (λ column. and_left (has_dot code row column) (same_pixel (letter_dot n at row column) z) (no_dot code row column h)))
 
-off_sheet : (n : ℕ) (m : Mark) (z : ℤ × ℤ) → on_sheet n z ≡ false → covers n m z ≡ false
+-- a mark covers no pixel off the sheet
+pub off_sheet : (n : ℕ) (m : Mark) (z : ℤ × ℤ) → on_sheet n z ≡ false → covers n m z ≡ false
 unfolding covers
 off_sheet n m z off = and_left (on_sheet n z) (reaches n m z) off
 

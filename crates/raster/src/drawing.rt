@@ -17,7 +17,7 @@ fn put_line(sheet: &mut BitSheet, line: Line, mode: LineMode)
     ensures named { sheet.new.bytes.ghost_name ≡ sheet.old.bytes.ghost_name }
     ensures gained { Gained sheet.old.side.pixels sheet.old.bytes.now sheet.new.bytes.now (line_inks line.from line.to mode) }
 {
-    for k in 0..line.steps() + 1 {
+    for k in 0..line.points() {
         if mode.inks(k) {
             sheet.put(line.point(k));
         }
@@ -30,7 +30,7 @@ fn put_row(sheet: &mut BitSheet, letter: Letter, row: u8)
     ensures named { sheet.new.bytes.ghost_name ≡ sheet.old.bytes.ghost_name }
     ensures gained { Gained sheet.old.side.pixels sheet.old.bytes.now sheet.new.bytes.now (λ w. any_below (letter_inks_at letter.side.pixels letter.at letter.code w row) 5) }
 {
-    for column in 0..5u8 {
+    for column in 0..5 {
         if letter.has_dot(row, column) {
             sheet.put(letter.dot(row, column));
         }
@@ -43,7 +43,7 @@ fn put_letter(sheet: &mut BitSheet, letter: Letter)
     ensures named { sheet.new.bytes.ghost_name ≡ sheet.old.bytes.ghost_name }
     ensures gained { Gained sheet.old.side.pixels sheet.old.bytes.now sheet.new.bytes.now (letter_inks letter.side.pixels letter.at letter.code) }
 {
-    for row in 0..8u8 {
+    for row in 0..8 {
         put_row(sheet, letter, row);
     }
 }

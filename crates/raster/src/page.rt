@@ -70,7 +70,7 @@ impl<'a> BitSheet<'a> {
         ensures same { result.now ≡ self.now.bytes.now }
         ensures holds { Holds self.now.side.pixels result.now (inked_at self.now.side.pixels self.now.bytes.now) }
     {
-        &*self.bytes
+        &self.bytes
     }
 
     // Which byte has the bit of a pixel.

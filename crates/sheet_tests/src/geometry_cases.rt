@@ -35,9 +35,7 @@ const PLACES: [(u16, i16, i32); 25] = [
 #[test]
 fn points_go_to_their_pixels(rt: HostRuntime) -> Result<(), Fail> {
     for (pixels, v, place) in PLACES {
-        let Some(side) = Side::new(pixels) else {
-            return Err(Fail::new("no such side"));
-        };
+        let side = Side::new(pixels).ok_or_else(|| Fail::new("no such side"))?;
         let row = pixels as i64 - 1 - place as i64;
         assert_eq!(rt; pixel_of(side, Point { x: v, y: 0 }).0, place);
         assert_eq!(rt; pixel_of(side, Point { x: 0, y: v }).1 as i64, row);
@@ -78,9 +76,7 @@ fn lines() -> [(Point, Point, [(i32, i32); 5]); 4] {
 
 #[test]
 fn lines_have_their_points(rt: HostRuntime) -> Result<(), Fail> {
-    let Some(side) = Side::new(8) else {
-        return Err(Fail::new("no side 8"));
-    };
+    let side = Side::new(8).ok_or_else(|| Fail::new("no side 8"))?;
     for (from, to, points) in lines() {
         let line = Line::between(side, from, to);
         for (k, point) in points.into_iter().enumerate() {

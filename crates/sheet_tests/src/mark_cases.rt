@@ -77,31 +77,33 @@ fn draws_alike<A: Sheet, B: Sheet>(
     mark_both(a, b, mark) && inked_alike(a, b, pixels) == Some(count)
 }
 
+// Puts each mark on a bit sheet in that memory and on a stroke table, and compares the inked pixels with its count.
+fn draws_cases(pixels: u8, memory: &mut [u8], cases: [(Mark, u32); 16]) -> Result<bool, Fail> {
+    let side = u16::from(pixels);
+    let mut records = [Stroke::from(dot(0, 0))];
+    raster::ask(side, memory)?;
+    strokes::ask(side, &records)?;
+    let mut bits = raster::make(side, memory);
+    let mut table = strokes::make(side, &mut records);
+    for (mark, count) in cases {
+        if !draws_alike(&mut bits, &mut table, mark, pixels, count) {
+            return Ok(false);
+        }
+    }
+    Ok(true)
+}
+
 #[test]
 fn marks_at_side_8(rt: HostRuntime) -> Result<(), Fail> {
-    let mut memory = [0u8; 8];
-    let mut records = [Stroke::from(dot(0, 0))];
-    raster::ask(8, &memory)?;
-    strokes::ask(8, &records)?;
-    let mut bits = raster::make(8, &mut memory);
-    let mut table = strokes::make(8, &mut records);
-    for (mark, count, _) in cases() {
-        assert!(rt; draws_alike(&mut bits, &mut table, mark, 8, count));
-    }
+    let cases = cases().map(|(mark, count, _)| (mark, count));
+    assert!(rt; draws_cases(8, &mut [0u8; 8], cases)?);
     Ok(())
 }
 
 #[test]
 fn marks_at_side_9(rt: HostRuntime) -> Result<(), Fail> {
-    let mut memory = [0u8; 18];
-    let mut records = [Stroke::from(dot(0, 0))];
-    raster::ask(9, &memory)?;
-    strokes::ask(9, &records)?;
-    let mut bits = raster::make(9, &mut memory);
-    let mut table = strokes::make(9, &mut records);
-    for (mark, _, count) in cases() {
-        assert!(rt; draws_alike(&mut bits, &mut table, mark, 9, count));
-    }
+    let cases = cases().map(|(mark, _, count)| (mark, count));
+    assert!(rt; draws_cases(9, &mut [0u8; 18], cases)?);
     Ok(())
 }
 

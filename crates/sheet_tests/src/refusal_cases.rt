@@ -34,9 +34,9 @@ const BIT_SHEETS: [(u16, usize, Result<(), Unfit>); 17] = [
 fn bit_sheets_are_asked_for(rt: HostRuntime) -> Result<(), Fail> {
     let memory = vec![in rt.alloc(); 0u8; 524289]?;
     for (side, len, answer) in BIT_SHEETS {
-        let Some(part) = memory.get(..len) else {
-            return Err(Fail::new("the memory is too short"));
-        };
+        let part = memory
+            .get(..len)
+            .ok_or_else(|| Fail::new("the memory is too short"))?;
         assert_eq!(rt; raster::ask(side, part), answer);
     }
     Ok(())

@@ -1,7 +1,7 @@
 // Draws the specimen on a bit sheet of side 512, and prints its rows that bear ink.
 #![tactic(auto)]
 
-use anyhow::anyhow;
+use anyhow::{anyhow, ensure};
 use specimen_page::{draw_specimen, first_row, inked_pixels, past_rows, row_text};
 use std::io::Write;
 
@@ -13,9 +13,7 @@ fn main(rt: HostRuntime) -> anyhow::Result<()> {
     let mut memory = [0u8; BYTES];
     raster::ask(SIDE, &memory).map_err(|_| anyhow!("the memory does not fit"))?;
     let mut page = raster::make(SIDE, &mut memory);
-    if !draw_specimen(&mut page) {
-        return Err(anyhow!("the sheet is full"));
-    }
+    ensure!(draw_specimen(&mut page), "the sheet is full");
     for row in first_row(&page)..past_rows(&page) {
         rt.stdout().write_all(&row_text(&page, row))?;
         println!(rt)?;

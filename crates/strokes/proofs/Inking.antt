@@ -1,10 +1,11 @@
 -- Which pixels a list of strokes inks, as the list grows and as a search goes along it.
 use Rattle.std.proofs.Common.{◌≡◌, ℕ, zero, suc, ◌+◌, ◌<◌, Bool, true, false, ◌||◌, List, [], ◌∷◌, ◌++◌, length, get_or, take, set, ℤ, sym, refl, ap, ◌∙◌, le_of_suc-le-suc, arith}
 use Rattle.std.proofs.lemmas.List.{take_more_set, take_more}
-use Rattle.std.proofs.lemmas.Bool.{or_from, or_left, or_right, and_left, and_from, and_right}
+use Rattle.std.proofs.lemmas.Bool.{or_from, or_left, or_right, and_from, and_right}
 use Rattle.std.proofs.Math.Bool.{or-false, or_assoc}
 use Rattle.mark.specs.declared.Mark.{Mark}
 use Rattle.mark.specs.Covers.{covers, on_sheet, reaches}
+use Rattle.mark.proofs.Rules.{off_sheet}
 use Rattle.strokes.specs.declared.records.Stroke.{Stroke}
 use Rattle.strokes.specs.Strokes.{mark_of}
 use Rattle.strokes.specs.Tables.{inked_by}
@@ -28,14 +29,10 @@ covers_not : (n : ℕ) (m : Mark) (z : ℤ × ℤ) → reaches n m z ≡ false �
 unfolding covers
 covers_not n m z miss = and_right (on_sheet n z) (reaches n m z) miss
 
-covers_off : (n : ℕ) (m : Mark) (z : ℤ × ℤ) → on_sheet n z ≡ false → covers n m z ≡ false
-unfolding covers
-covers_off n m z off = and_left (on_sheet n z) (reaches n m z) off
-
 -- no stroke inks a pixel off the sheet
 pub inked_off : (n : ℕ) (ss : List Stroke) (z : ℤ × ℤ) → on_sheet n z ≡ false → inked_by n ss z ≡ false
 inked_off n [] z off = refl
-inked_off n (s ∷ ss) z off = or_from (covers n (mark_of s) z) (inked_by n ss z) (covers_off n (mark_of s) z off) (inked_off n ss z off)
+inked_off n (s ∷ ss) z off = or_from (covers n (mark_of s) z) (inked_by n ss z) (off_sheet n (mark_of s) z off) (inked_off n ss z off)
 
 -- the search goes on: no stroke before i inks the pixel, and the stroke i does not reach it
 pub inked_none : (n i : ℕ) (ss : List Stroke) (d : Stroke) (z : ℤ × ℤ) → i < length ss → inked_by n (take i ss) z ≡ false → reaches n (mark_of (get_or ss i d)) z ≡ false → inked_by n (take (i + 1) ss) z ≡ false

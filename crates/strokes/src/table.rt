@@ -1,6 +1,5 @@
 // The table of strokes.
 ghost use Rattle.std.specs.Prelude.{◌≡◌, ◌+◌, ◌<◌, ◌≤◌, min, length, take, Some, Ok, slice_set};
-ghost use Rattle.geometry.specs.Lines.{steps_of};
 ghost use Rattle.geometry.specs.Places.{point_pixel};
 ghost use Rattle.mark.specs.Covers.{same_pixel};
 ghost use Rattle.sheet.specs.Meanings.{answer, blank, cleared, marked};
@@ -44,13 +43,6 @@ fn dot_inks(side: Side, at: Point, pixel: (i32, i32)) -> bool
     pixel_of(side, at) == pixel
 }
 
-// How many points a line has.
-fn points(line: Line) -> u32
-    ensures { result ≡ steps_of line.from line.to + 1 }
-{
-    line.steps() + 1
-}
-
 impl<'a> StrokeTable<'a> {
     // Writes a stroke whole to the first free record.
     fn push(&mut self, stroke: Stroke)
@@ -69,7 +61,7 @@ impl<'a> StrokeTable<'a> {
         ensures strokes { result.now ≡ take self.now.count self.now.strokes.now }
         ensures page { (table_meaning self.now.side.pixels self.now.count self.now.strokes.now).inked ≡ inked_by self.now.side.pixels result.now }
     {
-        &self.strokes[0..self.count]
+        &self.strokes[..self.count]
     }
 }
 
@@ -101,7 +93,7 @@ impl<'a> Sheet for StrokeTable<'a> {
                     }
                     Kind::Line => {
                         let line = Line::between(self.side, stroke.from, stroke.to);
-                        for k in 0..points(line) {
+                        for k in 0..line.points() {
                             if line_inks(line, stroke.mode, k, pixel) {
                                 break 'strokes true;
                             }

@@ -41,5 +41,5 @@ returns-clause-gained c =
     let t = c.args.sheet.now in
     let p = c.args.line.from in
     let q = c.args.line.to in
-    let all : c.loop-k.k ≡ suc (steps_of p q) = omega (arith, c.steps-k-end.ensures.value, c.loop-k.auto.k-end, c.loop-k-test.false) in
+    let all : c.loop-k.k ≡ suc (steps_of p q) = omega (arith, c.points-k-end.ensures, c.loop-k.auto.k-end, c.loop-k-test.false) in
     parts_end t.side.pixels (line_inks_at p q c.args.mode) t.bytes.now c.loop-k.k c.loop-k.sheet.bytes.now (suc (steps_of p q)) all c.loop-k.invariant.2
