@@ -19,13 +19,14 @@ fn play_slip<'a>(mut slip: Slip<'a>, operations: &mut slice::Iter<'_, Operation<
     ensures book { book result.buffer.now (idle (known result.names) result.used) (iter_rest operations.new) ≡ book slip.entry.buffer.now (busy slip.entry.opened (known slip.entry.names) slip.entry.used) (iter_rest operations.old) }
     ensures tied { result.buffer.ghost_name ≡ slip.entry.buffer.ghost_name }
 {
+    // by next: after a `for` over by_ref (tried) a proof does not know where the lent iterator stands
     while let Some(operation) = operations.next() {
         match *operation {
             Operation::Write(statement) => {
                 let _ = slip.write(statement);
             }
             Operation::Close => return slip.close(),
-            Operation::Picture | Operation::Definition { name: _, header: _ } => {}
+            Operation::Picture | Operation::Definition { .. } => {}
         }
     }
     slip.close()
