@@ -11,56 +11,58 @@ use geometry::{Line, Side, pixel_of};
 use mark::{Letter, LineMode, Mark, on_sheet};
 use sheet::{Refusal, Sheet, Unfit};
 
-// Inks the points of a line that its mode inks.
-fn put_line(sheet: &mut BitSheet, line: Line, mode: LineMode)
-    ensures side { sheet.new.side.pixels ≡ sheet.old.side.pixels }
-    ensures named { sheet.new.bytes.ghost_name ≡ sheet.old.bytes.ghost_name }
-    ensures gained { Gained sheet.old.side.pixels sheet.old.bytes.now sheet.new.bytes.now (line_inks line.from line.to mode) }
-{
-    for k in 0..line.points() {
-        if mode.inks(k) {
-            sheet.put(line.point(k));
+impl<'a> BitSheet<'a> {
+    // Inks the points of a line that its mode inks.
+    fn put_line(&mut self, line: Line, mode: LineMode)
+        ensures side { self.new.side.pixels ≡ self.old.side.pixels }
+        ensures named { self.new.bytes.ghost_name ≡ self.old.bytes.ghost_name }
+        ensures gained { Gained self.old.side.pixels self.old.bytes.now self.new.bytes.now (line_inks line.from line.to mode) }
+    {
+        for k in 0..line.points() {
+            if mode.inks(k) {
+                self.put(line.point(k));
+            }
         }
     }
-}
 
-// Inks the dots of one row of a letter.
-fn put_row(sheet: &mut BitSheet, letter: Letter, row: u8)
-    ensures side { sheet.new.side.pixels ≡ sheet.old.side.pixels }
-    ensures named { sheet.new.bytes.ghost_name ≡ sheet.old.bytes.ghost_name }
-    ensures gained { Gained sheet.old.side.pixels sheet.old.bytes.now sheet.new.bytes.now (λ w. any_below (letter_inks_at letter.side.pixels letter.at letter.code w row) 5) }
-{
-    for column in 0..5 {
-        if letter.has_dot(row, column) {
-            sheet.put(letter.dot(row, column));
+    // Inks the dots of one row of a letter.
+    fn put_row(&mut self, letter: Letter, row: u8)
+        ensures side { self.new.side.pixels ≡ self.old.side.pixels }
+        ensures named { self.new.bytes.ghost_name ≡ self.old.bytes.ghost_name }
+        ensures gained { Gained self.old.side.pixels self.old.bytes.now self.new.bytes.now (λ w. any_below (letter_inks_at letter.side.pixels letter.at letter.code w row) 5) }
+    {
+        for column in 0..5 {
+            if letter.has_dot(row, column) {
+                self.put(letter.dot(row, column));
+            }
         }
     }
-}
 
-// Inks a letter of the font.
-fn put_letter(sheet: &mut BitSheet, letter: Letter)
-    ensures side { sheet.new.side.pixels ≡ sheet.old.side.pixels }
-    ensures named { sheet.new.bytes.ghost_name ≡ sheet.old.bytes.ghost_name }
-    ensures gained { Gained sheet.old.side.pixels sheet.old.bytes.now sheet.new.bytes.now (letter_inks letter.side.pixels letter.at letter.code) }
-{
-    for row in 0..8 {
-        put_row(sheet, letter, row);
-    }
-}
-
-// Inks a mark.
-fn put_mark(sheet: &mut BitSheet, mark: Mark)
-    ensures after { bit_meaning sheet.new.side.pixels sheet.new.bytes.now ≡ gains (bit_meaning sheet.old.side.pixels sheet.old.bytes.now) mark None }
-    ensures named { sheet.new.bytes.ghost_name ≡ sheet.old.bytes.ghost_name }
-{
-    match mark {
-        Mark::Dot { at } => sheet.put(pixel_of(sheet.side, at)),
-        Mark::Line { from, to, mode } => {
-            put_line(sheet, Line::between(sheet.side, from, to), mode);
+    // Inks a letter of the font.
+    fn put_letter(&mut self, letter: Letter)
+        ensures side { self.new.side.pixels ≡ self.old.side.pixels }
+        ensures named { self.new.bytes.ghost_name ≡ self.old.bytes.ghost_name }
+        ensures gained { Gained self.old.side.pixels self.old.bytes.now self.new.bytes.now (letter_inks letter.side.pixels letter.at letter.code) }
+    {
+        for row in 0..8 {
+            self.put_row(letter, row);
         }
-        Mark::Letter { at, code } => {
-            let side = sheet.side;
-            put_letter(sheet, Letter { side, at, code });
+    }
+
+    // Inks a mark.
+    fn put_mark(&mut self, mark: Mark)
+        ensures after { bit_meaning self.new.side.pixels self.new.bytes.now ≡ gains (bit_meaning self.old.side.pixels self.old.bytes.now) mark None }
+        ensures named { self.new.bytes.ghost_name ≡ self.old.bytes.ghost_name }
+    {
+        match mark {
+            Mark::Dot { at } => self.put(pixel_of(self.side, at)),
+            Mark::Line { from, to, mode } => {
+                self.put_line(Line::between(self.side, from, to), mode);
+            }
+            Mark::Letter { at, code } => {
+                let side = self.side;
+                self.put_letter(Letter { side, at, code });
+            }
         }
     }
 }
@@ -87,7 +89,7 @@ impl<'a> Sheet for BitSheet<'a> {
     }
 
     fn mark(&mut self, mark: Mark) -> Result<(), Refusal> {
-        put_mark(self, mark);
+        self.put_mark(mark);
         Ok(())
     }
 }

@@ -3,11 +3,11 @@ use Rattle.mark.specs.declared.Mark.{Mark}
 use Rattle.mark.specs.Covers.{reaches, on_sheet, same_pixel, line_inks}
 use Rattle.raster.specs.Bits.{inked_at}
 use Rattle.raster.proofs.Inking.{page_gains}
-use Rattle.raster.proofs.drawing.put_mark.Goals as goal
+use Rattle.raster.proofs.page.BitSheet.put_mark.Goals as goal
 
 pub returns-in-Dot-clause-after : goal.returns-in-Dot-clause-after
 returns-in-Dot-clause-after c =
-    let t = c.args.sheet.now in
+    let t = c.args.self.now in
     let n = t.side.pixels in
     page_gains n _ t.bytes.now _ c.args.mark c.put.ensures.side (λ w.
     c.put.ensures.gained w
@@ -16,7 +16,7 @@ returns-in-Dot-clause-after c =
 
 pub returns-in-Line-clause-after : goal.returns-in-Line-clause-after
 returns-in-Line-clause-after c =
-    let t = c.args.sheet.now in
+    let t = c.args.self.now in
     let n = t.side.pixels in
     let l = c.between.ensures in
     page_gains n _ t.bytes.now _ c.args.mark c.put_line.ensures.side (λ w.
@@ -26,7 +26,7 @@ returns-in-Line-clause-after c =
 
 pub returns-in-Letter-clause-after : goal.returns-in-Letter-clause-after
 returns-in-Letter-clause-after c =
-    let t = c.args.sheet.now in
+    let t = c.args.self.now in
     let n = t.side.pixels in
     page_gains n _ t.bytes.now _ c.args.mark c.put_letter.ensures.side (λ w.
     c.put_letter.ensures.gained w

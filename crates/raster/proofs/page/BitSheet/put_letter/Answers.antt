@@ -1,13 +1,13 @@
 use Rattle.std.proofs.Common.{◌≡◌, refl, ◌∙◌, arith}
 use Rattle.mark.specs.Covers.{any_below, letter_inks_at, letter_inks}
 use Rattle.raster.proofs.Inking.{part_more, parts_end}
-use Rattle.raster.proofs.drawing.put_letter.Goals as goal
+use Rattle.raster.proofs.page.BitSheet.put_letter.Goals as goal
 
 pub loop-row-preserved : goal.loop-row-preserved
 loop-row-preserved c =
-    let t = c.args.sheet.now in
+    let t = c.args.self.now in
     let n = t.side.pixels in
-    let s = c.loop-row.sheet in
+    let s = c.loop-row.self in
     let m = c.args.letter.side.pixels in
     let at = c.args.letter.at in
     let code = c.args.letter.code in
@@ -21,7 +21,7 @@ loop-row-preserved c =
 pub returns-clause-gained : goal.returns-clause-gained
 unfolding letter_inks
 returns-clause-gained c =
-    let t = c.args.sheet.now in
+    let t = c.args.self.now in
     let n = t.side.pixels in
     let all : c.loop-row.row ≡ 8 = omega (arith, c.loop-row.auto.row-end, c.loop-row-test.false) in
-    parts_end n (λ w row. any_below (letter_inks_at c.args.letter.side.pixels c.args.letter.at c.args.letter.code w row) 5) t.bytes.now c.loop-row.row c.loop-row.sheet.bytes.now 8 all c.loop-row.invariant.2
+    parts_end n (λ w row. any_below (letter_inks_at c.args.letter.side.pixels c.args.letter.at c.args.letter.code w row) 5) t.bytes.now c.loop-row.row c.loop-row.self.bytes.now 8 all c.loop-row.invariant.2
