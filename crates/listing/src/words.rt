@@ -3,35 +3,20 @@ ghost use Rattle.std.specs.Prelude.{◌≡◌};
 ghost use Rattle.statement.specs.Views.{said_by};
 ghost use Rattle.listing.specs.Lines.{name_of, header_text, indent};
 
+use spelling::code::code_of;
 use statement::types::{Header, Standing, Statement};
+
+// The names of the codes, in their order.
+static NAMES: [&str; 21] = [
+    "NULL", "ERASE", "MOVEA", "MOVER", "DRAWA", "DRAWR", "DOTA", "DOTR", "TEXT", "TEXTR", "ENDPIC",
+    "ESCDEV", "LINMOD", "SETINT", "TEXTO", "SUBHED", "SUBEND", "INSTS", "MARK", "MOVEMK", "DRAWMK",
+];
 
 // The name of a statement's code.
 pub(crate) fn name_of(statement: &Statement<'_>) -> &'static str
     ensures { result.now ≡ name_of (said_by statement.now) }
 {
-    match statement {
-        Statement::Null => "NULL",
-        Statement::Erase => "ERASE",
-        Statement::Movea(_, _) => "MOVEA",
-        Statement::Mover(_, _) => "MOVER",
-        Statement::Drawa(_, _) => "DRAWA",
-        Statement::Drawr(_, _) => "DRAWR",
-        Statement::Dota(_, _) => "DOTA",
-        Statement::Dotr(_, _) => "DOTR",
-        Statement::Text(_) => "TEXT",
-        Statement::Textr(_) => "TEXTR",
-        Statement::Endpic => "ENDPIC",
-        Statement::Escdev(_, _) => "ESCDEV",
-        Statement::Linmod(_) => "LINMOD",
-        Statement::Setint(_) => "SETINT",
-        Statement::Texto(_) => "TEXTO",
-        Statement::Subhed(_, _) => "SUBHED",
-        Statement::Subend => "SUBEND",
-        Statement::Insts(_, _) => "INSTS",
-        Statement::Mark => "MARK",
-        Statement::Movemk => "MOVEMK",
-        Statement::Drawmk => "DRAWMK",
-    }
+    NAMES[usize::from(code_of(statement))]
 }
 
 // The header of a definition, in base 16.

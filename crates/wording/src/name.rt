@@ -67,7 +67,7 @@ fn other_named(name: &[u8]) -> Option<Layout>
 }
 
 // What follows the code of a name, if it is the name of one.
-// One match of all names was tried: of a name that it lacks the proof is told the length alone.
+// Tried: one match of all names (of one that it lacks the proof is told the length alone), and a place in a table by code (its `position` did not close).
 pub(crate) fn layout_named(name: &[u8]) -> Option<Layout>
     ensures { result ≡ entry names name.now }
 {
