@@ -1,6 +1,7 @@
 // One definition.
 ghost use Rattle.std.specs.Prelude.{◌≡◌, [], if◌then◌else◌, Some, None};
 ghost use Rattle.std.specs.Result.{result_err};
+ghost use Rattle.statement.specs.declared.types.Header.TheVariants.{Simple};
 ghost use Rattle.run.specs.Performing.{same_bytes};
 ghost use Rattle.calls.specs.Tables.{letters_of, entry_of, longer, overflows};
 
@@ -9,14 +10,16 @@ use arrayvec::ArrayVec;
 use run::types::Fault;
 use statement::types::Header;
 
-impl Definition {
+impl Default for Definition {
+    ghost is_default = { λ d. entry_of d ≡ record { name = []; header = Simple; body = [] } };
+
     // A definition of no name, with no bytes recorded.
-    pub fn blank() -> Definition
-        ensures { entry_of result ≡ record { name = []; header = Header.Simple; body = [] } }
-    {
+    fn default() -> Definition {
         Definition::new(Name::new(), Header::Simple)
     }
+}
 
+impl Definition {
     // A definition with no bytes recorded.
     pub fn new(name: Name, header: Header) -> Definition
         ensures { entry_of result ≡ record { name = letters_of name; header = header; body = [] } }

@@ -13,7 +13,7 @@ use Rattle.statement.specs.declared.types.Standing.{Standing}
 use Rattle.statement.specs.Statements.{CallTail, Said, Act, act, plain, call, letters, travel, subhed, alone, layout_of, allowed}
 use Rattle.statement.specs.Reading.{Shape, more, refused, whole, Front, wanting, wrong, found, onto, count, measured, string, texted, escaped, pair, titled, headed, heading, header_of, lawful_tail, is_name, named_tail, is_text, tailed, tail_of, calling, arguments, admitted, reading, lawful, coordinate}
 use Rattle.reader.specs.Held.{NameFits}
-use Rattle.reader.proofs.Held.{by_test}
+use Rattle.std.proofs.lemmas.Bool.{cond_both}
 
 abbrev pub Fit : Shape → Type 0
 Fit more = Unit {0}
@@ -35,8 +35,8 @@ short_measured : (f : Front ℕ) → Short (measured 8 f)
 short_measured wanting = tt
 short_measured (wrong f) = tt
 short_measured (found n rest) =
-    by_test Short (ltb 8 n) (wrong fault.TooLong) (cond (ltb (length rest) n) wanting (found (take n rest) (drop n rest))) (λ e. tt)
-    (λ e. by_test Short (ltb (length rest) n) wanting (found (take n rest) (drop n rest)) (λ t. tt)
+    cond_both (ltb 8 n) (wrong fault.TooLong) (cond (ltb (length rest) n) wanting (found (take n rest) (drop n rest))) Short (λ e. tt)
+    (λ e. cond_both (ltb (length rest) n) wanting (found (take n rest) (drop n rest)) Short (λ t. tt)
     (λ t. omega (arith, ltb-false 8 n e, length-take n rest)))
 
 fit_onto : (f : Front (List ℕ)) (go : List ℕ → List ℕ → Shape) → ((a rest : List ℕ) → Fit (go a rest)) → Fit (onto f go)
@@ -51,7 +51,7 @@ fit_short (found a rest) go s h = h a rest s
 
 fit_titled : (n : List ℕ) (h : Option Header) → length n ≤ 8 → Fit (titled n h)
 fit_titled n None l = tt
-fit_titled n (Some h) l = by_test Fit (is_name n) (whole (subhed n h)) (refused fault.WrongCharacter) (λ e. l) (λ e. tt)
+fit_titled n (Some h) l = cond_both (is_name n) (whole (subhed n h)) (refused fault.WrongCharacter) Fit (λ e. l) (λ e. tt)
 
 fit_headed : (n rest : List ℕ) → length n ≤ 8 → Fit (headed n rest)
 fit_headed n [] l = tt
@@ -59,19 +59,19 @@ fit_headed n (h ∷ rest) l = fit_titled n (header_of h) l
 
 fit_heading : (n rest : List ℕ) → length n ≤ 8 → Fit (heading n rest)
 fit_heading n [] l = tt
-fit_heading n (b ∷ rest) l = by_test Fit (eqb b 1) (headed n rest) (refused fault.WrongLayout) (λ e. fit_headed n rest l) (λ e. tt)
+fit_heading n (b ∷ rest) l = cond_both (eqb b 1) (headed n rest) (refused fault.WrongLayout) Fit (λ e. fit_headed n rest l) (λ e. tt)
 
 fit_tailed : (n : List ℕ) (t : Option CallTail) → Fit (tailed n t)
 fit_tailed n None = tt
 fit_tailed n (Some t) =
-    by_test Fit (lawful_tail t) (cond (is_name n && named_tail t) (whole (act (call n t))) (refused fault.WrongCharacter)) (refused fault.WrongCoordinate)
+    cond_both (lawful_tail t) (cond (is_name n && named_tail t) (whole (act (call n t))) (refused fault.WrongCharacter)) (refused fault.WrongCoordinate) Fit
     (λ e. fit_act (is_name n && named_tail t) (call n t) fault.WrongCharacter) (λ e. tt)
 
 fit_calling : (n rest : List ℕ) → Fit (calling n rest)
 fit_calling n [] = tt
 fit_calling n (t ∷ rest) =
-    by_test Fit (ltb 14 t) (refused fault.WrongLayout) (cond (ltb (length rest) t) more (tailed n (tail_of (take t rest)))) (λ e. tt)
-    (λ e. by_test Fit (ltb (length rest) t) more (tailed n (tail_of (take t rest))) (λ g. tt) (λ g. fit_tailed n (tail_of (take t rest))))
+    cond_both (ltb 14 t) (refused fault.WrongLayout) (cond (ltb (length rest) t) more (tailed n (tail_of (take t rest)))) Fit (λ e. tt)
+    (λ e. cond_both (ltb (length rest) t) more (tailed n (tail_of (take t rest))) Fit (λ g. tt) (λ g. fit_tailed n (tail_of (take t rest))))
 
 fit_pair : (t : Trace) (a : Aim) (rest : List ℕ) → Fit (pair t a rest)
 fit_pair t a [] = tt

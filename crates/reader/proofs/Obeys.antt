@@ -1,6 +1,5 @@
 -- Statements obeyed by where a reader stands.
 use Rattle.std.proofs.Common.{◌≡◌, ℕ, true, List, [], ◌++◌, sym, refl, ap, ◌∙◌}
-use borrow.Author.Tests.{clash}
 use Rattle.sheet.specs.Meanings.{Meaning}
 use Rattle.statement.specs.declared.types.Home.{Home}
 use Rattle.statement.specs.declared.types.Standing.{Standing}
@@ -26,10 +25,10 @@ module _ (w : State) (bytes : List ℕ) (at : ℕ) (h : List ℕ) (m : Meaning) 
   obeyed st s t e f = ap (λ z. obeyed_at z (said_by s)) e ∙ ap (λ z. obeyed_at st (said_by z)) f
 
   act_in_picture : (s : Said) → is_act s ≡ true → performed at (drawing_of Live h w m) (perform_said 8 (entries_of w.table) [] 0 s (ink_of w.work.pen m) w.work.count) ≡ obeyed_at standing.Picture s
-  act_in_picture erase e = absurd (clash e)
-  act_in_picture endpic e = absurd (clash e)
-  act_in_picture (subhed n d) e = absurd (clash e)
-  act_in_picture subend e = absurd (clash e)
+  act_in_picture erase e = absurd cc
+  act_in_picture endpic e = absurd cc
+  act_in_picture (subhed n d) e = absurd cc
+  act_in_picture subend e = absurd cc
   act_in_picture (act a) e = refl
 
   pub performs : (s : Said) → w.standing ≡ standing.Picture → is_act s ≡ true
@@ -38,10 +37,10 @@ module _ (w : State) (bytes : List ℕ) (at : ℕ) (h : List ℕ) (m : Meaning) 
 
   act_in_definition : (home : Home) (s : Said) → is_act s ≡ true
       → keeps (recording home (entry_of w.draft).name w.draft.header ((entry_of w.draft).body ++ bytes) at (drawing_of Live h w m)) w.work.count ≡ obeyed_at (standing.Definition home) s
-  act_in_definition home erase e = absurd (clash e)
-  act_in_definition home endpic e = absurd (clash e)
-  act_in_definition home (subhed n d) e = absurd (clash e)
-  act_in_definition home subend e = absurd (clash e)
+  act_in_definition home erase e = absurd cc
+  act_in_definition home endpic e = absurd cc
+  act_in_definition home (subhed n d) e = absurd cc
+  act_in_definition home subend e = absurd cc
   act_in_definition home (act a) e = refl
 
   pub records : (home : Home) (s : Said) → w.standing ≡ standing.Definition home → is_act s ≡ true

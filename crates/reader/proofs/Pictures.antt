@@ -7,18 +7,18 @@ use Rattle.statement.specs.Statements.{Said, erase, endpic, subhed, subend, act}
 use Rattle.statement.specs.Reading.{Shape, more, refused, whole}
 use Rattle.run.specs.declared.types.Fault.TheVariants as fault
 use Rattle.run.specs.Runs.{Stance, outside, picture, defining, Drawing, taken, heeding, opening, recording, refusing, stance_as, is_full}
-use Rattle.reader.proofs.Held.{by_test}
+use Rattle.std.proofs.lemmas.Bool.{cond_both}
 
 one_at_most : (n : ℕ) → n ≤ n + 1
 one_at_most n = omega arith
 
 opens : (w : Home) (n : List ℕ) (h : Header) (at : ℕ) (d : Drawing) → (opening w n h at d).pictures ≤ d.pictures + 1
 opens w n h at d =
-    by_test (λ z. z.pictures ≤ d.pictures + 1) (is_full d.table n) (refusing fault.NoRoom at d) (stance_as (defining w n h []) d) (λ e. one_at_most d.pictures) (λ e. one_at_most d.pictures)
+    cond_both (is_full d.table n) (refusing fault.NoRoom at d) (stance_as (defining w n h []) d) (λ z. z.pictures ≤ d.pictures + 1) (λ e. one_at_most d.pictures) (λ e. one_at_most d.pictures)
 
 records : (w : Home) (n : List ℕ) (h : Header) (bs : List ℕ) (at : ℕ) (d : Drawing) → (recording w n h bs at d).pictures ≤ d.pictures + 1
 records w n h bs at d =
-    by_test (λ z. z.pictures ≤ d.pictures + 1) (leb 1025 (length bs)) (refusing fault.NoRoom at d) (stance_as (defining w n h bs) d) (λ e. one_at_most d.pictures) (λ e. one_at_most d.pictures)
+    cond_both (leb 1025 (length bs)) (refusing fault.NoRoom at d) (stance_as (defining w n h bs) d) (λ z. z.pictures ≤ d.pictures + 1) (λ e. one_at_most d.pictures) (λ e. one_at_most d.pictures)
 
 takes : (s : Stance) (x : Said) (h : List ℕ) (at : ℕ) (d : Drawing) (k : ℕ) → (taken s x h at d k).drawing.pictures ≤ d.pictures + 1
 takes outside erase h at d k = one_at_most d.pictures

@@ -45,7 +45,7 @@ impl State {
     pub(crate) fn end_definition(&mut self)
         ensures { (m : Meaning) (h : List ℕ) (home : Home) → self.old.standing ≡ InDefinition home → turn_of (Ok tt) self.new m ≡ keeps (closing home (entry_of self.old.draft).name self.old.draft.header (entry_of self.old.draft).body (drawing_of Live h self.old m)) self.old.work.count }
     {
-        let ended = mem::replace(&mut self.draft, Definition::blank());
+        let ended = mem::take(&mut self.draft);
         self.table.store(ended);
         self.standing = self.standing.after(&Statement::Subend);
     }

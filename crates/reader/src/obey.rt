@@ -39,6 +39,7 @@ impl State {
         bytes: &[u8],
     ) -> Result<(), Failure>
         requires named { NameFits (said_by statement) }
+        // That the pictures can be counted stays a clause: they stand in State, and the bytes read that bound them in Reader.
         requires counted { self.old.pictures < 2 ^ 32 }
         ensures after { (at : ℕ) (h : List ℕ) → turn_of (placed at result) self.new (S.meaning sheet.new) ≡ taken (stance_in self.old) (said_by statement.entry) bytes.now at (drawing_of Live h self.old (S.meaning sheet.old)) self.old.work.count }
         ensures tied { S.tied sheet.new ≡ S.tied sheet.old }

@@ -29,6 +29,7 @@ impl State {
         bytes: &[u8],
         at: usize,
     ) -> Result<Settled, Refusal>
+        // A clause here too, as in obey.
         requires { self.old.pictures < 2 ^ 32 }
         ensures after { (h : List ℕ) → settled_as result bytes.now self.new (S.meaning sheet.new) ≡ heeding bytes.now (reading self.old.standing bytes.now) at (drawing_of Live h self.old (S.meaning sheet.old)) self.old.work.count }
         ensures waits { Waiting result (is_more (reading self.new.standing bytes.now)) }

@@ -31,7 +31,7 @@ fn over(table: Table) -> Reader
                 count: 0,
             },
             table,
-            draft: Definition::blank(),
+            draft: Definition::default(),
         },
     }
 }
