@@ -5,7 +5,7 @@ ghost use Rattle.exported.specs.Answers.{drawn_as, life_number};
 use job::Refusal;
 use run::types::Life;
 
-// What a call answers for which there is no memory: no number of a refusal.
+// What a call answers for which there is no memory: no number of a refusal; a number, since the C interface knows no Option.
 pub(crate) const NO_MEMORY: u8 = 255;
 
 // What a job comes to: the number of its refusal, or 0, and how many bytes were printed; the C interface knows no Result.
@@ -34,12 +34,9 @@ impl From<Result<usize, Refusal>> for Drawn {
     }
 }
 
-// The number of the fault that a life tells, or 0.
+// The number of the fault that a life tells, or 0; a number, since the C interface knows no Option.
 pub(crate) fn life_number(life: Life) -> u8
     ensures { result ≡ life_number life }
 {
-    match life {
-        Life::Live | Life::Closed => 0,
-        Life::Refused(refusal) => refusal.fault.number(),
-    }
+    life.refusal().map_or(0, |refusal| refusal.fault.number())
 }

@@ -37,7 +37,7 @@ fn draw(reader: &mut Reader, job: Job<'_>, lengths: &[u8], out: &mut [u8]) -> Re
     ensures after { Came reader.new (drawing_by reader.old job.entry.side job.entry.stream.now) }
 {
     // no heap is given: what the largest sheet takes
-    let mut memory = [0; 32768];
+    let mut memory = [0; 32_768];
     let len = page_bytes(job.side);
     draw_on(reader, job, &mut memory[..len], lengths, out)
 }
