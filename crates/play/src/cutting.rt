@@ -58,12 +58,21 @@ pub fn play_cut<S: Sheet>(
 }
 
 // Feeds a stream in pieces of one length, or whole where that is 0, finishes, and reports; the cutting changes nothing.
-pub fn play_even<S: Sheet>(reader: &mut Reader, sheet: &mut S, stream: &[u8], length: usize) -> Report
+pub fn play_even<S: Sheet>(
+    reader: &mut Reader,
+    sheet: &mut S,
+    stream: &[u8],
+    length: usize,
+) -> Report
     ensures after { config_of reader.new (S.meaning sheet.new) ≡ finish (run (config_of reader.old (S.meaning sheet.old)) stream.now) }
     ensures report { result ≡ report_of (config_of reader.new (S.meaning sheet.new)) }
     ensures tied { S.tied sheet.new ≡ S.tied sheet.old }
 {
-    let length = if length > 0 { length } else { stream.len().max(1) };
+    let length = if length > 0 {
+        length
+    } else {
+        stream.len().max(1)
+    };
     feed_even(reader, sheet, stream, length);
     finish_run(reader, sheet)
 }

@@ -6,10 +6,10 @@ use reader::reader::Reader;
 use std::io::{Read, Write};
 
 // One byte more than the longest job, so that a longer one is told from it.
-const MOST: u64 = 65539;
+const MOST: u64 = 65_539;
 
 // What the largest page and the longest report take.
-const ROOM: usize = 265000;
+const ROOM: usize = 265_000;
 
 fn main(rt: HostRuntime) -> anyhow::Result<()> {
     let mut job = Vec::new(rt.alloc());
