@@ -11,6 +11,8 @@ use Rattle.mark.specs.declared.LineMode.{LineMode}
 use Rattle.mark.specs.declared.Mark.{Mark}
 use Rattle.mark.specs.Covers.{on_sheet, same_pixel, any_below, inks_point, line_inks_at, has_dot, letter_dot, letter_inks_at, covers, reaches}
 use Rattle.sheet.specs.Meanings.{gains}
+use Rattle.raster.specs.declared.page.BitSheet.{BitSheet}
+use Rattle.raster.specs.Sheets.{Inks}
 use Rattle.raster.specs.Bits.{page_bytes, bit_at, inked_at, with_pixel, Gained, bit_meaning}
 use Rattle.raster.proofs.Bytes.{within_row, bit_set}
 
@@ -74,27 +76,37 @@ more false true false false = refl
 more false false p q = refl
 
 -- the parts of a mark below j are inked: `parts w k` says that its part k inks the pixel w
-abbrev pub SoFar : ℕ → (ℤ × ℤ → ℕ → Bool) → List ℕ → List ℕ → ℕ → Type 0
-SoFar n parts begun bytes j = Gained n begun bytes (λ w. any_below (parts w) j)
+abbrev pub SoFar : BitSheet → (ℤ × ℤ → ℕ → Bool) → BitSheet → ℕ → Type 0
+SoFar begun parts s j = Inks begun s (λ w. any_below (parts w) j)
 
-module _ (n : ℕ) (parts : ℤ × ℤ → ℕ → Bool) (begun : List ℕ) (k : ℕ) where
-  -- one part more, inked on a page whose side m is n
-  pub part_more : (m : ℕ) (bytes after : List ℕ) (own : ℤ × ℤ → Bool) → m ≡ n → ((w : ℤ × ℤ) → parts w k ≡ own w) → Gained m bytes after own → SoFar n parts begun bytes k → SoFar n parts begun after (k + 1)
-  part_more m bytes after own e is step inv w =
-      subst (λ (j : ℕ). inked_at j after w ≡ (inked_at j bytes w || (on_sheet j w && own w))) e (step w)
-      ∙ (λ i. inv w i || (on_sheet n w && sym (is w) i))
-      ∙ more (inked_at n begun w) (on_sheet n w) (any_below (parts w) k) (parts w k)
-      ∙ ap (λ (j : ℕ). inked_at n begun w || (on_sheet n w && any_below (parts w) j)) (sym (add-one k))
+module _ (begun : BitSheet) (parts : ℤ × ℤ → ℕ → Bool) (k : ℕ) (s : BitSheet) where
+  -- one part more
+  pub part_more : (after : BitSheet) (own : ℤ × ℤ → Bool) → ((w : ℤ × ℤ) → parts w k ≡ own w) → Inks s after own → SoFar begun parts s k → SoFar begun parts after (k + 1)
+  part_more after own is step inv =
+      let n = begun.side.pixels in (
+        step.0 ∙ inv.0,
+        step.1 ∙ inv.1,
+        λ w.
+            subst (λ (j : ℕ). inked_at j after.bytes.now w ≡ (inked_at j s.bytes.now w || (on_sheet j w && own w))) inv.0 (step.2 w)
+            ∙ (λ i. inv.2 w i || (on_sheet n w && sym (is w) i))
+            ∙ more (inked_at n begun.bytes.now w) (on_sheet n w) (any_below (parts w) k) (parts w k)
+            ∙ ap (λ (j : ℕ). inked_at n begun.bytes.now w || (on_sheet n w && any_below (parts w) j)) (sym (add-one k)),
+      )
 
   -- one part more that inks nothing
-  pub part_passed : (bytes : List ℕ) → ((w : ℤ × ℤ) → parts w k ≡ false) → SoFar n parts begun bytes k → SoFar n parts begun bytes (k + 1)
-  part_passed bytes none inv w =
-      inv w ∙ (λ i. inked_at n begun w || (on_sheet n w && (sym (none w) i || any_below (parts w) k)))
-      ∙ ap (λ (j : ℕ). inked_at n begun w || (on_sheet n w && any_below (parts w) j)) (sym (add-one k))
+  pub part_passed : ((w : ℤ × ℤ) → parts w k ≡ false) → SoFar begun parts s k → SoFar begun parts s (k + 1)
+  part_passed none inv =
+      let n = begun.side.pixels in (
+        inv.0,
+        inv.1,
+        λ w.
+            inv.2 w ∙ (λ i. inked_at n begun.bytes.now w || (on_sheet n w && (sym (none w) i || any_below (parts w) k)))
+            ∙ ap (λ (j : ℕ). inked_at n begun.bytes.now w || (on_sheet n w && any_below (parts w) j)) (sym (add-one k)),
+      )
 
   -- all parts
-  pub parts_end : (bytes : List ℕ) (j : ℕ) → k ≡ j → SoFar n parts begun bytes k → SoFar n parts begun bytes j
-  parts_end bytes j e inv = subst (λ (m : ℕ). SoFar n parts begun bytes m) e inv
+  pub parts_end : (j : ℕ) → k ≡ j → SoFar begun parts s k → SoFar begun parts s j
+  parts_end j e inv = subst (λ (m : ℕ). SoFar begun parts s m) e inv
 
 -- the part k of a line, and a dot of a letter, that is inked
 pub point_own : (p q : ℤ × ℤ) (mode : LineMode) (k : ℕ) (z : ℤ × ℤ) → inks_point mode k ≡ true → z ≡ point_of p q k → (w : ℤ × ℤ) → line_inks_at p q mode w k ≡ same_pixel z w

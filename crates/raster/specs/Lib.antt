@@ -1,2 +1,3 @@
 pub mod Bits
 pub mod Asking
+pub mod Sheets

@@ -1,22 +1,32 @@
 // Drawing on a page of bits.
 ghost use Rattle.std.specs.Prelude.{◌≡◌, length, None};
-ghost use Rattle.mark.specs.Covers.{any_below, line_inks, letter_inks_at, letter_inks};
+ghost use Rattle.mark.specs.Covers.{any_below, same_pixel, line_inks, letter_inks_at, letter_inks};
 ghost use Rattle.sheet.specs.Meanings.{gains};
 ghost use Rattle.raster.specs.Asking.{asked, Drawn};
-ghost use Rattle.raster.specs.Bits.{Gained, bit_meaning};
+ghost use Rattle.raster.specs.Bits.{bit_meaning};
+ghost use Rattle.raster.specs.Sheets.{Inks};
 
 use crate::asking::ask;
-use crate::page::{BitSheet, make};
+use crate::page::{BitSheet, make, with_bit};
 use geometry::{Line, Side, pixel_of};
 use mark::{Letter, LineMode, Mark, on_sheet};
 use sheet::{Refusal, Sheet, Unfit};
 
 impl<'a> BitSheet<'a> {
+    // Inks a pixel, if it is on the sheet.
+    fn put(&mut self, pixel: (i32, i32))
+        ensures { Inks self.old self.new (same_pixel pixel) }
+    {
+        if !on_sheet(self.side, pixel) {
+            return;
+        }
+        let at = self.place(pixel);
+        self.bytes[at] = with_bit(self.bytes[at], (pixel.0 as u32 % 8) as u8);
+    }
+
     // Inks the points of a line that its mode inks.
     fn put_line(&mut self, line: Line, mode: LineMode)
-        ensures side { self.new.side.pixels ≡ self.old.side.pixels }
-        ensures named { self.new.bytes.ghost_name ≡ self.old.bytes.ghost_name }
-        ensures gained { Gained self.old.side.pixels self.old.bytes.now self.new.bytes.now (line_inks line.from line.to mode) }
+        ensures { Inks self.old self.new (line_inks line.from line.to mode) }
     {
         for k in 0..line.points() {
             if mode.inks(k) {
@@ -27,9 +37,7 @@ impl<'a> BitSheet<'a> {
 
     // Inks the dots of one row of a letter.
     fn put_row(&mut self, letter: Letter, row: u8)
-        ensures side { self.new.side.pixels ≡ self.old.side.pixels }
-        ensures named { self.new.bytes.ghost_name ≡ self.old.bytes.ghost_name }
-        ensures gained { Gained self.old.side.pixels self.old.bytes.now self.new.bytes.now (λ w. any_below (letter_inks_at letter.side.pixels letter.at letter.code w row) 5) }
+        ensures { Inks self.old self.new (λ w. any_below (letter_inks_at letter.side.pixels letter.at letter.code w row) 5) }
     {
         for column in 0..5 {
             if letter.has_dot(row, column) {
@@ -40,9 +48,7 @@ impl<'a> BitSheet<'a> {
 
     // Inks a letter of the font.
     fn put_letter(&mut self, letter: Letter)
-        ensures side { self.new.side.pixels ≡ self.old.side.pixels }
-        ensures named { self.new.bytes.ghost_name ≡ self.old.bytes.ghost_name }
-        ensures gained { Gained self.old.side.pixels self.old.bytes.now self.new.bytes.now (letter_inks letter.side.pixels letter.at letter.code) }
+        ensures { Inks self.old self.new (letter_inks letter.side.pixels letter.at letter.code) }
     {
         for row in 0..8 {
             self.put_row(letter, row);

@@ -3,7 +3,7 @@ ghost use Rattle.std.specs.Prelude.{◌≡◌, ◌%◌, ◌<◌, true, length, N
 ghost use Rattle.mark.specs.Covers.{on_sheet, same_pixel};
 ghost use Rattle.sheet.specs.Meanings.{blank, cleared};
 ghost use Rattle.raster.specs.Asking.{asked};
-ghost use Rattle.raster.specs.Bits.{row_bytes, page_bytes, bit_at, with_bit, byte_of, inked_at, Clean, Gained, Holds, bit_meaning};
+ghost use Rattle.raster.specs.Bits.{row_bytes, page_bytes, bit_at, with_bit, byte_of, inked_at, Clean, Holds, bit_meaning};
 
 use geometry::Side;
 use mark::on_sheet;
@@ -33,7 +33,7 @@ pub fn page_bytes(side: u16) -> usize
 
 // The byte with the bit set that stands at place k from the left.
 #[tactic(auto, using(crate::proofs::Bytes::mask_is))]
-fn with_bit(b: u8, k: u8) -> u8
+pub(crate) fn with_bit(b: u8, k: u8) -> u8
     requires { k < 8 }
     ensures { result ≡ with_bit b k }
 {
@@ -74,7 +74,7 @@ impl<'a> BitSheet<'a> {
     }
 
     // Which byte has the bit of a pixel.
-    fn place(&self, pixel: (i32, i32)) -> usize
+    pub(crate) fn place(&self, pixel: (i32, i32)) -> usize
         requires { on_sheet self.now.side.pixels pixel ≡ true }
         ensures value { result ≡ byte_of self.now.side.pixels pixel }
         ensures inside { result < length self.now.bytes.now }
@@ -88,19 +88,6 @@ impl<'a> BitSheet<'a> {
         ensures { result ≡ bit_at self.now.side.pixels self.now.bytes.now (unsigned_abs pixel.0) (unsigned_abs pixel.1) }
     {
         (self.bytes[self.place(pixel)] >> (7 - pixel.0 as u32 % 8)) % 2 == 1
-    }
-
-    // Inks a pixel, if it is on the sheet.
-    pub(crate) fn put(&mut self, pixel: (i32, i32))
-        ensures side { self.new.side.pixels ≡ self.old.side.pixels }
-        ensures named { self.new.bytes.ghost_name ≡ self.old.bytes.ghost_name }
-        ensures gained { Gained self.old.side.pixels self.old.bytes.now self.new.bytes.now (same_pixel pixel) }
-    {
-        if !on_sheet(self.side, pixel) {
-            return;
-        }
-        let at = self.place(pixel);
-        self.bytes[at] = with_bit(self.bytes[at], (pixel.0 as u32 % 8) as u8);
     }
 
     // Makes every bit 0.

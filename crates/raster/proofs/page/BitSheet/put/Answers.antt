@@ -1,4 +1,4 @@
-use Rattle.std.proofs.Common.{◌≡◌, ℕ, ◌%◌, List, get_or, set, ℤ, nat_abs, sym, ◌∙◌, subst, length-set, w32, SFits, to_z, of_z, rules}
+use Rattle.std.proofs.Common.{◌≡◌, ℕ, ◌%◌, List, get_or, set, ℤ, nat_abs, sym, refl, ◌∙◌, subst, length-set, w32, SFits, to_z, of_z, rules}
 use Rattle.std.proofs.lemmas.Int.{to_z-of_z}
 use Rattle.mark.specs.Covers.{same_pixel}
 use Rattle.raster.specs.Bits.{byte_of, with_bit, with_pixel, Clean, Gained}
@@ -6,10 +6,10 @@ use Rattle.raster.proofs.Bytes.{clean_set}
 use Rattle.raster.proofs.Inking.{on_within, ink_on, ink_off}
 use Rattle.raster.proofs.page.BitSheet.put.Goals as goal
 
-pub returns-then-not-on_sheet-clause-gained : goal.returns-then-not-on_sheet-clause-gained
-returns-then-not-on_sheet-clause-gained c =
+pub returns-then-not-on_sheet : goal.returns-then-not-on_sheet
+returns-then-not-on_sheet c =
     let t = c.args.self.now in
-    ink_off t.side.pixels t.bytes.now c.args.pixel (sym c.if-not-on_sheet.ensures)
+    (refl, refl, ink_off t.side.pixels t.bytes.now c.args.pixel (sym c.if-not-on_sheet.ensures))
 
 -- what is written, as the code has it, is the bytes with the pixel's bit set
 written : (n at b : ℕ) (bytes : List ℕ) (z : ℤ × ℤ) → SFits w32 z.0 → at ≡ byte_of n z → b ≡ with_bit (get_or bytes at 0) (nat_abs (to_z w32 (of_z w32 z.0)) % 8) → set bytes at b ≡ with_pixel n bytes z
@@ -29,10 +29,10 @@ invariant_of-self c =
       spare = subst (λ (b : List ℕ). Clean n b) (sym is) (clean_set n t.bytes.now (nat_abs z.0) (nat_abs z.1) on.0.0 on.1.0 t.whole t.spare);
     }
 
-pub returns-clause-gained : goal.returns-clause-gained
-returns-clause-gained c =
+pub returns : goal.returns
+returns c =
     let t = c.args.self.now in
     let n = t.side.pixels in
     let z = c.args.pixel in
     let is = written n c.place-at.result c.with_bit.result t.bytes.now z (search rules) c.place-at.ensures.value c.with_bit.ensures in
-    subst (λ (b : List ℕ). Gained n t.bytes.now b (same_pixel z)) (sym is) (ink_on n t.bytes.now z t.whole (sym c.if-not-on_sheet.ensures))
+    (refl, refl, subst (λ (b : List ℕ). Gained n t.bytes.now b (same_pixel z)) (sym is) (ink_on n t.bytes.now z t.whole (sym c.if-not-on_sheet.ensures)))

@@ -9,8 +9,8 @@ pub returns-in-Dot-clause-after : goal.returns-in-Dot-clause-after
 returns-in-Dot-clause-after c =
     let t = c.args.self.now in
     let n = t.side.pixels in
-    page_gains n _ t.bytes.now _ c.args.mark c.put.ensures.side (λ w.
-    c.put.ensures.gained w
+    page_gains n _ t.bytes.now _ c.args.mark c.put.ensures.0 (λ w.
+    c.put.ensures.2 w
     ∙ ap (λ (p : ℤ × ℤ). inked_at n t.bytes.now w || (on_sheet n w && same_pixel p w)) c.pixel_of.ensures
     ∙ ap (λ (m : Mark). inked_at n t.bytes.now w || (on_sheet n w && reaches n m w)) (sym c.in-Dot.is))
 
@@ -19,8 +19,8 @@ returns-in-Line-clause-after c =
     let t = c.args.self.now in
     let n = t.side.pixels in
     let l = c.between.ensures in
-    page_gains n _ t.bytes.now _ c.args.mark c.put_line.ensures.side (λ w.
-    c.put_line.ensures.gained w
+    page_gains n _ t.bytes.now _ c.args.mark c.put_line.ensures.0 (λ w.
+    c.put_line.ensures.2 w
     ∙ (λ i. inked_at n t.bytes.now w || (on_sheet n w && line_inks (l.from i) (l.to i) c.in-Line.mode w))
     ∙ ap (λ (m : Mark). inked_at n t.bytes.now w || (on_sheet n w && reaches n m w)) (sym c.in-Line.is))
 
@@ -28,6 +28,6 @@ pub returns-in-Letter-clause-after : goal.returns-in-Letter-clause-after
 returns-in-Letter-clause-after c =
     let t = c.args.self.now in
     let n = t.side.pixels in
-    page_gains n _ t.bytes.now _ c.args.mark c.put_letter.ensures.side (λ w.
-    c.put_letter.ensures.gained w
+    page_gains n _ t.bytes.now _ c.args.mark c.put_letter.ensures.0 (λ w.
+    c.put_letter.ensures.2 w
     ∙ ap (λ (m : Mark). inked_at n t.bytes.now w || (on_sheet n w && reaches n m w)) (sym c.in-Letter.is))
