@@ -11,7 +11,7 @@ fn long_count(high: u8, low: u8) -> Result<usize, Stop>
     requires { 128 ≤ high }
     ensures { result ≡ long_count_by ((high - 128) * 256 + low) }
 {
-    let n = (high as usize - 128) * 256 + low as usize;
+    let n = usize::from(u16::from_be_bytes([high - 128, low]));
     if n < 128 {
         Err(Fault::ShortCount.into())
     } else {

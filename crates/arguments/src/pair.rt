@@ -4,7 +4,7 @@ ghost use Rattle.statement.specs.Reading.{travelled, pair};
 ghost use Rattle.statement.specs.Views.{shape_of, ReadingLies};
 ghost use Rattle.statement.specs.Places.{ReadingStands};
 
-use statement::coordinate::{coordinate_of, is_lawful};
+use statement::coordinate::{are_lawful, coordinate_of};
 use statement::layout::{Aim, Trace};
 use statement::types::{Fault, Statement, Stop};
 
@@ -14,7 +14,7 @@ fn lawful_travel<'a>(trace: Trace, aim: Aim, x: i16, y: i16) -> Result<Statement
     ensures parts { (bs : List ℕ) → ReadingLies result bs }
     ensures stands { ReadingStands result }
 {
-    if is_lawful(aim, x) && is_lawful(aim, y) {
+    if are_lawful(aim, x, y) {
         Ok(Statement::travel(trace, aim, x, y))
     } else {
         Err(Fault::WrongCoordinate.into())

@@ -10,7 +10,6 @@ use crate::heading::read_heading;
 use arguments::pair::read_pair;
 use arguments::plain::read_value;
 use arguments::text::{read_escape, read_text};
-
 use statement::layout::Layout;
 use statement::types::{Fault, Standing, Statement, Stop};
 

@@ -40,8 +40,8 @@ pub record Onto {A : Type 0} (p : Front A) (k : A → List ℕ → Shape) (s : S
   pub then : k got after ≡ whole s
 
 pub onto_whole : {A : Type 0} (p : Front A) (k : A → List ℕ → Shape) (s : Said) → onto p k ≡ whole s → Onto p k s
-onto_whole wanting k s e = absurd (more≢whole s e)
-onto_whole (wrong f) k s e = absurd (refused≢whole f s e)
+onto_whole wanting k s e = absurd (cc)
+onto_whole (wrong f) k s e = absurd (cc)
 onto_whole (found a rest) k s e = record { got = a; after = rest; front = refl; then = e }
 
 pub bare_argued : (b : Bare) (xs : List ℕ) → Argued (layout.Bare b) xs (alone b)
@@ -54,10 +54,10 @@ bare_argued bare.Movemk xs = record { code = refl; rest = xs; spelt = matches_sa
 bare_argued bare.Drawmk xs = record { code = refl; rest = xs; spelt = matches_same xs xs refl; faultless = refl }
 
 pub pair_argued : (t : Trace) (a : Aim) (xs : List ℕ) (s : Said) → pair t a xs ≡ whole s → Argued (layout.Pair t a) xs s
-pair_argued t a [] s e = absurd (more≢whole s e)
-pair_argued t a (b ∷ []) s e = absurd (more≢whole s e)
-pair_argued t a (b ∷ c ∷ []) s e = absurd (more≢whole s e)
-pair_argued t a (b ∷ c ∷ d ∷ []) s e = absurd (more≢whole s e)
+pair_argued t a [] s e = absurd (cc)
+pair_argued t a (b ∷ []) s e = absurd (cc)
+pair_argued t a (b ∷ c ∷ []) s e = absurd (cc)
+pair_argued t a (b ∷ c ∷ d ∷ []) s e = absurd (cc)
 pair_argued t a (b ∷ c ∷ d ∷ f ∷ rest) s e =
     let x = coordinate b c in
     let y = coordinate d f in
@@ -87,7 +87,7 @@ text_argued m xs s e =
     })
 
 pub escape_argued : (xs : List ℕ) (s : Said) → escaping xs ≡ whole s → Argued layout.Escape xs s
-escape_argued [] s e = absurd (more≢whole s e)
+escape_argued [] s e = absurd (cc)
 escape_argued (v ∷ xs) s e =
     let o = onto_whole (string 512 xs) (escaped v) s e in
     let t = o.got in
@@ -103,7 +103,7 @@ escape_argued (v ∷ xs) s e =
     })
 
 pub value_argued : (k : Setting) (xs : List ℕ) (s : Said) → setting k xs ≡ whole s → Argued (layout.Value k) xs s
-value_argued k [] s e = absurd (more≢whole s e)
+value_argued k [] s e = absurd (cc)
 value_argued k (v ∷ xs) s e =
     let same : act (plain (assign k v)) ≡ s = cc in
     argued_at (layout.Value k) (v ∷ xs) (act (plain (assign k v))) s same

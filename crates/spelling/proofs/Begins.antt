@@ -2,6 +2,7 @@
 use Rattle.std.proofs.Common.{◌≡◌, ℕ, ◌≤◌, Bool, true, false, cond, ◌&&◌, eqb, ltb, List, [], ◌∷◌, ◌++◌, length, take, drop, Some, None, Option, sym, refl, ap, ◌∙◌, subst, inl, inr}
 use Rattle.std.proofs.lemmas.List.{append_assoc, take-append-drop, length-take-le}
 use Rattle.std.proofs.lemmas.Bool.{eqb-true, ltb-false}
+use Rattle.std.proofs.lemmas.Option.{none-some}
 use Rattle.statement.specs.declared.layout.Layout.{Layout}
 use Rattle.statement.specs.declared.layout.Layout.TheVariants as layout
 use Rattle.statement.specs.declared.types.Fault.TheVariants as fault
@@ -12,7 +13,7 @@ use Rattle.statement.specs.Statements.{CallTail, call, Said, subhed, act, alone,
 use Rattle.statement.specs.Reading.{more, refused, whole, onto, string, is_name, header_of, titled, headed, heading, lawful_tail, named_tail, tail_of, tailed, calling, arguments, admitted, reading}
 use Rattle.spelling.specs.Spelling.{code_of, spell_string, spell_tail, header_byte, spell_arguments, spell, first_of, unless, tail_fits, Lawful}
 use Rattle.spelling.proofs.Fronts.{Matches, matches_at, matches_cons, matches_before, matches_onto, by_first, by_second, string_found}
-use Rattle.spelling.proofs.Tails.{none≢some, pick, tail_found}
+use Rattle.spelling.proofs.Tails.{pick, tail_found}
 use Rattle.spelling.proofs.Codes.{code_of_layout}
 use Rattle.spelling.proofs.Arguments.{more≢whole, refused≢whole, Argued, argued_at, onto_whole, within, bare_argued, pair_argued, text_argued, escape_argued, value_argued}
 
@@ -26,7 +27,7 @@ header_found h d e =
             | inr p1 ↦
                 elim (pick (eqb h 0xC0) _ _ _ p1.1) [
                   | inl p ↦ let q = p.1 in let same : header.Both ≡ d = cc in eqb-true h 0xC0 p.0 ∙ ap header_byte same
-                  | inr p2 ↦ absurd (none≢some d p2.1)
+                  | inr p2 ↦ absurd (none-some d p2.1)
                 ]
           ]
     ]
@@ -40,18 +41,18 @@ record Headed (n xs : List ℕ) (s : Said) : Type 0 where
   same : subhed n kind ≡ s
 
 titled_whole : (n : List ℕ) (h : ℕ) (rest : List ℕ) (s : Said) (o : Option Header) → header_of h ≡ o → titled n o ≡ whole s → Headed n (1 ∷ h ∷ rest) s
-titled_whole n h rest s None k e = absurd (refused≢whole fault.WrongLayout s e)
+titled_whole n h rest s None k e = absurd (cc)
 titled_whole n h rest s (Some d) k e =
     let p = by_first (is_name n) (whole (subhed n d)) (refused fault.WrongCharacter) (whole s) (refused≢whole fault.WrongCharacter s) e in
     let q = p.1 in
     record { kind = d; rest = rest; bytes = ap (λ z. 1 ∷ z ∷ rest) (header_found h d k); named = p.0; same = cc }
 
 headed_whole : (n xs : List ℕ) (s : Said) → headed n xs ≡ whole s → Headed n (1 ∷ xs) s
-headed_whole n [] s e = absurd (more≢whole s e)
+headed_whole n [] s e = absurd (cc)
 headed_whole n (h ∷ xs) s e = titled_whole n h xs s (header_of h) refl e
 
 heading_whole : (n xs : List ℕ) (s : Said) → heading n xs ≡ whole s → Headed n xs s
-heading_whole n [] s e = absurd (more≢whole s e)
+heading_whole n [] s e = absurd (cc)
 heading_whole n (b ∷ xs) s e =
     let p = by_first (eqb b 1) (headed n xs) (refused fault.WrongLayout) (whole s) (refused≢whole fault.WrongLayout s) e in
     subst (λ z. Headed n (z ∷ xs) s) (sym (eqb-true b 1 p.0)) (headed_whole n xs s p.1)
@@ -84,7 +85,7 @@ record Called (n xs : List ℕ) (s : Said) : Type 0 where
   same : act (call n tail) ≡ s
 
 tailed_whole : (n : List ℕ) (t : ℕ) (xs : List ℕ) (s : Said) → t ≤ length xs → (o : Option CallTail) → tail_of (take t xs) ≡ o → tailed n o ≡ whole s → Called n (t ∷ xs) s
-tailed_whole n t xs s h None k e = absurd (refused≢whole fault.WrongLayout s e)
+tailed_whole n t xs s h None k e = absurd (cc)
 tailed_whole n t xs s h (Some c) k e =
     let p = by_first (lawful_tail c) (cond (is_name n && named_tail c) (whole (act (call n c))) (refused fault.WrongCharacter)) (refused fault.WrongCoordinate) (whole s) (refused≢whole fault.WrongCoordinate s) e in
     let q = by_first (is_name n && named_tail c) (whole (act (call n c))) (refused fault.WrongCharacter) (whole s) (refused≢whole fault.WrongCharacter s) p.1 in
@@ -104,7 +105,7 @@ tailed_whole n t xs s h (Some c) k e =
     }
 
 calling_whole : (n xs : List ℕ) (s : Said) → calling n xs ≡ whole s → Called n xs s
-calling_whole n [] s e = absurd (more≢whole s e)
+calling_whole n [] s e = absurd (cc)
 calling_whole n (t ∷ xs) s e =
     let rest = cond (ltb (length xs) t) more (tailed n (tail_of (take t xs))) in
     let p = by_second (ltb 14 t) (refused fault.WrongLayout) rest (whole s) (refused≢whole fault.WrongLayout s) e in
@@ -150,7 +151,7 @@ pub record Begins (st : Standing) (bs : List ℕ) (s : Said) : Type 0 where
   pub may : allowed st (code_of s) ≡ true
 
 admitted_begins : (st : Standing) (c : ℕ) (xs : List ℕ) (s : Said) (ok : Bool) (o : Option Layout) → allowed st c ≡ ok → layout_of c ≡ o → admitted ok o xs ≡ whole s → Begins st (c ∷ xs) s
-admitted_begins st c xs s ok None a l e = absurd (refused≢whole fault.UnknownCode s e)
+admitted_begins st c xs s ok None a l e = absurd (cc)
 admitted_begins st c xs s true (Some k) a l e =
     let g = argued k xs s e in
     let same : c ≡ code_of s = sym (code_of_layout c k l) ∙ g.code in
@@ -161,8 +162,8 @@ admitted_begins st c xs s true (Some k) a l e =
       faultless = g.faultless;
       may = ap (allowed st) (sym same) ∙ a;
     }
-admitted_begins st c xs s false (Some k) a l e = absurd (refused≢whole fault.Misplaced s e)
+admitted_begins st c xs s false (Some k) a l e = absurd (cc)
 
 pub begins : (st : Standing) (bs : List ℕ) (s : Said) → reading st bs ≡ whole s → Begins st bs s
-begins st [] s e = absurd (more≢whole s e)
+begins st [] s e = absurd (cc)
 begins st (c ∷ xs) s e = admitted_begins st c xs s (allowed st c) (layout_of c) refl refl e

@@ -10,7 +10,6 @@ use Rattle.statement.specs.declared.layout.Layout.{Layout}
 use Rattle.statement.specs.declared.layout.Layout.TheVariants as layout
 use Rattle.statement.specs.Statements.{alone, layouts, item, layout_of}
 use Rattle.spelling.specs.Spelling.{travel_code, text_code, setting_code, code_of}
-use Rattle.spelling.proofs.Tails.{none≢some}
 
 abbrev pub layout_code : Layout → ℕ
 layout_code (layout.Bare b) = code_of (alone b)
@@ -27,7 +26,7 @@ numbered n [] = true
 numbered n (l ∷ ls) = eqb (layout_code l) n && numbered (n + 1) ls
 
 numbered_item : (n : ℕ) (ls : List Layout) (c : ℕ) (l : Layout) → numbered n ls ≡ true → item ls c ≡ Some l → layout_code l ≡ n + c
-numbered_item n [] c l h e = absurd (none≢some l e)
+numbered_item n [] c l h e = absurd (cc)
 numbered_item n (x ∷ ls) c l h e = by (numbered_item (n + 1) ls (c - 1) l (and_parts (eqb (layout_code x) n) (numbered (n + 1) ls) h).1) (eqb c 0) refl e
   where
     by : (item ls (c - 1) ≡ Some l → layout_code l ≡ n + 1 + (c - 1)) → (b : Bool) → eqb c 0 ≡ b → cond b (Some x) (item ls (c - 1)) ≡ Some l → layout_code l ≡ n + c

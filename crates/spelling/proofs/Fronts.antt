@@ -88,7 +88,7 @@ long_matches h l rest g e =
         λ i. hi i ∷ sym (digits_mod (h - 128) lt) i ∷ rest
 
 long_found : (h : ℕ) (bs : List ℕ) (n : ℕ) (rest : List ℕ) → 128 ≤ h → long_count h bs ≡ found n rest → Matches (h ∷ bs) (spell_count n ++ rest)
-long_found h [] n rest g e = absurd (wanting≢found n rest e)
+long_found h [] n rest g e = absurd (cc)
 long_found h (l ∷ bs) n rest g e =
     let m = (h - 128) * 256 + l in
     let p = by_second (ltb m 128) (wrong fault.ShortCount) (found m bs) (found n rest) (wrong≢found n rest fault.ShortCount) e in
@@ -105,7 +105,7 @@ short_found b bs n rest k e =
     (ap (λ z. cond z (b ∷ []) ((128 + b / 256) ∷ (b % 256) ∷ []) ++ bs) (sym k) ∙ (λ i. spell_count (en i) ++ er i))
 
 count_found : (bs : List ℕ) (n : ℕ) (rest : List ℕ) → count bs ≡ found n rest → Matches bs (spell_count n ++ rest)
-count_found [] n rest e = absurd (wanting≢found n rest e)
+count_found [] n rest e = absurd (cc)
 count_found (b ∷ bs) n rest e = by (ltb b 128) refl e
   where
     by : (t : Bool) → ltb b 128 ≡ t → cond t (found b bs) (long_count b bs) ≡ found n rest → Matches (b ∷ bs) (spell_count n ++ rest)
@@ -116,8 +116,8 @@ pub string_found : (limit : ℕ) (bs t rest : List ℕ) → string limit bs ≡ 
 string_found limit bs t rest e = by (count bs) refl e
   where
     by : (p : Front ℕ) → count bs ≡ p → measured limit p ≡ found t rest → Matches bs (spell_string t ++ rest) × (length t ≤ limit)
-    by wanting c m = absurd (wanting≢found t rest m)
-    by (wrong f) c m = absurd (wrong≢found t rest f m)
+    by wanting c m = absurd (cc)
+    by (wrong f) c m = absurd (cc)
     by (found n after) c m =
         let p = by_second (ltb limit n) (wrong fault.TooLong) (cond (ltb (length after) n) wanting (found (take n after) (drop n after))) (found t rest) (wrong≢found t rest fault.TooLong) m in
         let q = by_second (ltb (length after) n) wanting (found (take n after) (drop n after)) (found t rest) (wanting≢found t rest) p.1 in

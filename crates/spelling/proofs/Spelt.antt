@@ -20,7 +20,6 @@ use Rattle.spelling.proofs.Settles.{stays_whole, stays_refused}
 use Rattle.spelling.proofs.Fronts.{Bytes, string_spelt}
 use Rattle.spelling.proofs.Tails.{coordinate_spelt, tail_spelt, tail_short}
 use Rattle.spelling.proofs.Codes.{layout_code, layout_of_code}
-use Rattle.spelling.proofs.Arguments.{more≢whole, refused≢whole}
 use Rattle.spelling.proofs.Begins.{begins}
 
 -- no fault: neither of two
@@ -135,7 +134,7 @@ module _ (st : Standing) (s : Said) (l : Lawful s) (a : allowed st (code_of s) �
   front_more k h more e = refl
   front_more k h (refused f) e =
       let r : reading st (take k (spell s) ++ drop k (spell s)) ≡ refused f = stays_refused st (take k (spell s)) (drop k (spell s)) f e in
-      absurd (refused≢whole f s (sym r ∙ ap (reading st) (take-append-drop k (spell s)) ∙ spelt_whole st s l a))
+      let z = sym r ∙ ap (reading st) (take-append-drop k (spell s)) ∙ spelt_whole st s l a in absurd (cc)
   front_more k h (whole s') e =
       let r : reading st (take k (spell s) ++ drop k (spell s)) ≡ whole s' = stays_whole st (take k (spell s)) (drop k (spell s)) s' e in
       let w : whole s' ≡ whole s = sym r ∙ ap (reading st) (take-append-drop k (spell s)) ∙ spelt_whole st s l a in
@@ -166,4 +165,4 @@ spelt_once st bs s h r =
         let all = ap length e in
         let early : reading st (take (length (spell s)) bs) ≡ more = r.before (length (spell s)) (omega arith) in
         let front : take (length (spell s)) bs ≡ spell s = ap (take (length (spell s))) e ∙ take_at (spell s) (b ∷ rest) (length (spell s)) refl in
-        absurd (more≢whole s (sym early ∙ ap (reading st) front ∙ spelt_whole st s g.faultless g.may))
+        let z = sym early ∙ ap (reading st) front ∙ spelt_whole st s g.faultless g.may in absurd (cc)

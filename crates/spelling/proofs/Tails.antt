@@ -4,6 +4,7 @@ use Rattle.std.proofs.lemmas.List.{take-append-drop, length-take-le, take_at, dr
 use Rattle.std.proofs.lemmas.Int.{to_z-of_z}
 use Rattle.std.proofs.lemmas.Bool.{eqb-true, leb-true, le-leb, and_parts, and_from}
 use Rattle.std.proofs.lemmas.Bool.Decides.{nat_tests}
+use Rattle.std.proofs.lemmas.Option.{none-some}
 use Rattle.statement.specs.declared.layout.Aim.{Aim}
 use Rattle.statement.specs.declared.layout.Aim.TheVariants as aim
 use Rattle.statement.specs.Statements.{CallTail, empty, coded}
@@ -11,27 +12,24 @@ use Rattle.statement.specs.Reading.{coordinate, lawful, lawful_at, lawful_tail, 
 use Rattle.spelling.specs.Spelling.{spell_pair, spell_at, spell_tail, tail_fits}
 use Rattle.spelling.proofs.Fronts.{Matches, matches_same, matches_at, matches_cons, matches_onto, by_first, pair_matches}
 
-pub none≢some : {A : Type 0} (a : A) → None ≡ Some a → ⊥
-none≢some a e = cc
-
 pub pick : {A : Type 0} (b : Bool) (x y z : A) → cond b x y ≡ z → ((b ≡ true) × (x ≡ z)) ⊎ ((b ≡ false) × (y ≡ z))
 pick true x y z e = inl (refl, e)
 pick false x y z e = inr (refl, e)
 
 end_found : (a : Option (List ℕ)) (xs : List ℕ) (t : CallTail) → tail_end a xs ≡ Some t → (coded a None ≡ t) × (xs ≡ [])
 end_found a [] t e = (cc, refl)
-end_found a (b ∷ xs) t e = absurd (none≢some t e)
+end_found a (b ∷ xs) t e = absurd (cc)
 
 abbrev Pointed : Option (List ℕ) → List ℕ → CallTail → Type 0
 Pointed a xs t = (p : ℤ × ℤ) × (coded a (Some p) ≡ t) × Matches xs (spell_pair p.0 p.1)
 
 at_found : (a : Option (List ℕ)) (xs : List ℕ) (t : CallTail) → tail_at a xs ≡ Some t → Pointed a xs t
-at_found a [] t e = absurd (none≢some t e)
-at_found a (b ∷ []) t e = absurd (none≢some t e)
-at_found a (b ∷ c ∷ []) t e = absurd (none≢some t e)
-at_found a (b ∷ c ∷ d ∷ []) t e = absurd (none≢some t e)
+at_found a [] t e = absurd (cc)
+at_found a (b ∷ []) t e = absurd (cc)
+at_found a (b ∷ c ∷ []) t e = absurd (cc)
+at_found a (b ∷ c ∷ d ∷ []) t e = absurd (cc)
 at_found a (b ∷ c ∷ d ∷ f ∷ []) t e = ((coordinate b c, coordinate d f), cc, pair_matches b c d f [])
-at_found a (b ∷ c ∷ d ∷ f ∷ g ∷ xs) t e = absurd (none≢some t e)
+at_found a (b ∷ c ∷ d ∷ f ∷ g ∷ xs) t e = absurd (cc)
 
 -- a name in a tail, with what follows it
 record Named (k : Option (List ℕ) → List ℕ → Option CallTail) (xs : List ℕ) (t : CallTail) : Type 0 where
@@ -42,9 +40,9 @@ record Named (k : Option (List ℕ) → List ℕ → Option CallTail) (xs : List
   spelt : Matches xs ((length name ∷ name) ++ rest)
 
 as_found : (k : Option (List ℕ) → List ℕ → Option CallTail) (xs : List ℕ) (t : CallTail) → tail_as k xs ≡ Some t → Named k xs t
-as_found k [] t e = absurd (none≢some t e)
+as_found k [] t e = absurd (cc)
 as_found k (n ∷ xs) t e =
-    let p = by_first (leb n 8 && leb n (length xs)) (k (Some (take n xs)) (drop n xs)) None (Some t) (none≢some t) e in
+    let p = by_first (leb n 8 && leb n (length xs)) (k (Some (take n xs)) (drop n xs)) None (Some t) (none-some t) e in
     let q = and_parts (leb n 8) (leb n (length xs)) p.0 in
     let len : length (take n xs) ≡ n = length-take-le n xs (leb-true n (length xs) q.1) in
     record {
@@ -106,7 +104,7 @@ tail_found (c ∷ rest) t e =
                   | inr p2 ↦
                       elim (pick (eqb c 0xC0) _ _ _ p2.1) [
                         | inl p ↦ code_at c 0xC0 rest t p.0 (both_tail rest t p.1)
-                        | inr p3 ↦ absurd (none≢some t p3.1)
+                        | inr p3 ↦ absurd (none-some t p3.1)
                       ]
                 ]
           ]

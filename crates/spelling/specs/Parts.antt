@@ -4,6 +4,7 @@ use Rattle.statement.specs.Views.{bytes_of, tail_said}
 use Rattle.spelling.specs.declared.parts.Parts.{Parts}
 use Rattle.spelling.specs.declared.parts.Parts.TheVariants as parts
 
+-- the words of the parts say what the statement says
 abbrev pub said_with : Parts → Said
 said_with (parts.Bare b) = alone b
 said_with (parts.Pair t a x y) = act (plain (travel t a x y))

@@ -7,7 +7,7 @@ ghost use Rattle.statement.specs.Views.{bytes_of, said_by, tail_said};
 ghost use Rattle.spelling.specs.Spelling.{first_of, unless, tail_fits, act_fault, fault_of};
 
 use crate::parts::Parts;
-use statement::coordinate::is_lawful;
+use statement::coordinate::are_lawful;
 use statement::layout::Aim;
 use statement::letters::{is_name, is_text};
 use statement::limits::{LONGEST_NAME, LONGEST_STRING};
@@ -24,13 +24,11 @@ fn hold(holds: bool, fault: Fault) -> Result<(), Fault>
 fn check_pair(aim: Aim, x: i16, y: i16) -> Result<(), Fault>
     ensures { result_err result ≡ unless (lawful aim x && lawful aim y) Fault.WrongCoordinate }
 {
-    hold(
-        is_lawful(aim, x) && is_lawful(aim, y),
-        Fault::WrongCoordinate,
-    )
+    hold(are_lawful(aim, x, y), Fault::WrongCoordinate)
 }
 
 // What a string or a name must keep: its length, then its characters.
+// (A flag and no closure: a string that is too long would not ask the closure, and the contract would be no equation.)
 fn check_string(bytes: &[u8], longest: usize, is_written_right: bool) -> Result<(), Fault>
     ensures { result_err result ≡ first_of (unless (nat_le (length bytes.now) longest) Fault.TooLong) (unless is_written_right Fault.WrongCharacter) }
 {
@@ -78,7 +76,7 @@ pub fn check(statement: &Statement<'_>) -> Result<(), Fault>
     }
 }
 
-// Why a statement cannot be written, if it cannot.
+// Why a statement cannot be written, if it cannot: the question for the reason alone, which `check` leaves by `?`.
 pub fn fault_of(statement: &Statement<'_>) -> Option<Fault>
     ensures { result ≡ fault_of (said_by statement.now) }
 {

@@ -6,7 +6,7 @@ ghost use Rattle.spelling.specs.Parts.{said_with};
 use statement::layout::{Aim, Bare, Manner, Setting, Trace};
 use statement::types::{Header, Part, Statement, Tail};
 
-// A statement by its layout.
+// A statement by its layout; a pair's numbers stand beside each other as in the statement's own variants.
 #[derive(Clone, Copy, Debug, PartialEq, Eq)]
 pub enum Parts<'a> {
     Bare(Bare),

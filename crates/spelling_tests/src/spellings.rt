@@ -8,7 +8,7 @@ static LONG: [u8; 513] = [65; 513];
 
 // A part of a statement that is made here.
 fn part(bytes: &[u8]) -> Part<'_> {
-    Part { at: 0, bytes }
+    bytes.into()
 }
 
 // A statement is spelt so, by itself and into a buffer, and the bytes after it stay.

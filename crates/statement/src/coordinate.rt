@@ -1,5 +1,5 @@
 // Coordinates.
-ghost use Rattle.std.specs.Prelude.{◌≡◌};
+ghost use Rattle.std.specs.Prelude.{◌≡◌, ◌&&◌};
 ghost use Rattle.statement.specs.Reading.{coordinate, lawful};
 
 use crate::layout::Aim;
@@ -19,4 +19,11 @@ pub fn is_lawful(aim: Aim, v: i16) -> bool
         Aim::Absolute => (-16384..=16383).contains(&v),
         Aim::Relative => v != i16::MIN,
     }
+}
+
+// Whether both coordinates are lawful.
+pub fn are_lawful(aim: Aim, x: i16, y: i16) -> bool
+    ensures { result ≡ (lawful aim x && lawful aim y) }
+{
+    is_lawful(aim, x) && is_lawful(aim, y)
 }

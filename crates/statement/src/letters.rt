@@ -2,7 +2,7 @@
 ghost use Rattle.std.specs.Prelude.{◌≡◌};
 ghost use Rattle.statement.specs.Reading.{is_text, is_name_code, are_name_codes, is_name};
 
-// Whether all bytes are text codes.
+// Whether all bytes are text codes; 127 is the format's own bound, not that of a set of characters.
 pub fn is_text(bytes: &[u8]) -> bool
     ensures { result ≡ is_text bytes.now }
 {

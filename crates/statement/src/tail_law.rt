@@ -3,7 +3,7 @@ ghost use Rattle.std.specs.Prelude.{◌≡◌};
 ghost use Rattle.statement.specs.Reading.{lawful_tail, named_tail};
 ghost use Rattle.statement.specs.Views.{tail_said};
 
-use crate::coordinate::is_lawful;
+use crate::coordinate::are_lawful;
 use crate::layout::Aim;
 use crate::letters::are_name_codes;
 use crate::types::Tail;
@@ -17,7 +17,7 @@ impl Tail<'_> {
             Tail::Coded {
                 at: Some((x, y)),
                 ..
-            } => is_lawful(Aim::Absolute, x) && is_lawful(Aim::Absolute, y),
+            } => are_lawful(Aim::Absolute, x, y),
             _ => true,
         }
     }

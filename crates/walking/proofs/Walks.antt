@@ -13,7 +13,6 @@ use Rattle.spelling.specs.Spelling.{spell}
 use Rattle.spelling.specs.Walking.{Told, Stopped, Walk, longest_stream, place_of, stopping, heeding, going_on, walk_step, walk}
 use Rattle.spelling.specs.Laws.{Reads, Stand, spell_all, placed, standing_after, StreamsReadBack}
 use Rattle.spelling.proofs.Settles.{stays_whole, stays_refused}
-use Rattle.spelling.proofs.Arguments.{more≢whole, refused≢whole}
 use Rattle.spelling.proofs.Spelt.{spelt}
 
 -- in the midst of a statement that begins at a place
@@ -34,17 +33,14 @@ walk_stopped w e (b ∷ bs) h =
     let same : walk_step w b ≡ w = ap (λ o. going_on o w b) h in
     ap (λ z. walk z bs) same ∙ walk_stopped w e bs h
 
-more≢refused : (f : Fault) → more ≡ refused f → ⊥
-more≢refused f e = cc
-
 -- a front of bytes that want more wants more
 pub front_open : (st : Standing) (xs ys : List ℕ) → reading st (xs ++ ys) ≡ more → reading st xs ≡ more
 front_open st xs ys e = by (reading st xs) refl
   where
     by : (x : Shape) → reading st xs ≡ x → x ≡ more
     by more h = refl
-    by (refused f) h = absurd (more≢refused f (sym e ∙ stays_refused st xs ys f h))
-    by (whole s) h = absurd (more≢whole s (sym e ∙ stays_whole st xs ys s h))
+    by (refused f) h = let z = sym e ∙ stays_refused st xs ys f h in absurd (cc)
+    by (whole s) h = let z = sym e ∙ stays_whole st xs ys s h in absurd (cc)
 
 module _ (st : Standing) (ts : List Told) (at : ℕ) where
   pub place_is : (p : List ℕ) → place_of (midst st ts at p) ≡ at
@@ -113,7 +109,7 @@ module _ (st : Standing) (ts : List Told) (at : ℕ) where
   -- bytes that are refused stop the reading at the place of their code
   pub walk_refused : (p r : List ℕ) (f : Fault) → at + length p + length r ≤ longest_stream → reading st p ≡ more → reading st (p ++ r) ≡ refused f
       → ((walk (midst st ts at p) r).told ≡ ts) × ((walk (midst st ts at p) r).stop ≡ Some (record { fault = f; place = at }))
-  walk_refused p [] f h o e = absurd (more≢refused f (sym o ∙ ap (reading st) (sym (append-nil p)) ∙ e))
+  walk_refused p [] f h o e = let z = sym o ∙ ap (reading st) (sym (append-nil p)) ∙ e in absurd (cc)
   walk_refused p (b ∷ r) f h o e = by (λ o'. walk_refused (p ++ (b ∷ [])) r f few o' later) (reading st (p ++ (b ∷ []))) refl
     where
       few : at + length (p ++ (b ∷ [])) + length r ≤ longest_stream
@@ -133,7 +129,7 @@ module _ (st : Standing) (ts : List Told) (at : ℕ) where
           let w = step_refused p b f (omega arith) (g ∙ same) in
           let over = walk_stopped (walk_step (midst st ts at p) b) (record { fault = f; place = at }) r (ap (λ z. z.stop) w) in
           subst Ends (sym over) (ap (λ z. z.told) w, ap (λ z. z.stop) w)
-      by next (whole s) g = absurd (refused≢whole f s (sym later ∙ stays_whole st (p ++ (b ∷ [])) r s g))
+      by next (whole s) g = let z = sym later ∙ stays_whole st (p ++ (b ∷ [])) r s g in absurd (cc)
 
 pub spelling_long : (s : Said) → 0 < length (spell s)
 spelling_long s = omega arith
