@@ -58,8 +58,8 @@ fn perform_body<'t, S: Sheet>(
 {
     let mut start = 0;
     // Kept an index: bytes are read one by one, and a refusal tells the offset where its statement began.
-    for end in 0..body.len() {
-        match read(Standing::Definition(Home::Outside), &body[start..end + 1]) {
+    for end in 1..=body.len() {
+        match read(Standing::Definition(Home::Outside), &body[start..end]) {
             Err(Stop::Wanting) => {}
             Err(Stop::Wrong(unread)) => {
                 let fault = unread.into();
@@ -68,7 +68,7 @@ fn perform_body<'t, S: Sheet>(
             }
             Ok(statement) => {
                 perform(table, calls, start, work, sheet, &statement)?;
-                start = end + 1;
+                start = end;
             }
         }
     }

@@ -1,4 +1,4 @@
-use Rattle.std.proofs.Common.{◌≡◌, ◌+◌, ◌<◌, [], ◌∷◌, ◌++◌, length, vec_items, Some, None, sym, refl, ap, ◌∙◌, arith, rules}
+use Rattle.std.proofs.Common.{◌≡◌, ◌+◌, ◌-◌, ◌<◌, ◌≤◌, [], ◌∷◌, ◌++◌, length, take, drop, vec_items, Some, None, sym, refl, ap, ◌∙◌, arith, rules}
 use Rattle.std.specs.Option.{option_map}
 use Rattle.std.specs.Result.{result_err}
 use Rattle.run.specs.Performing.{spot_at, out_of, trouble_at}
@@ -129,12 +129,12 @@ perform_body-loop-end-preserved g t c =
     let i = ink_of c.loop-end.work.pen (m c.loop-end.sheet) in
     let k = c.loop-end.work.count in
     let now = c.match-read in
-    let n = end + 1 in
+    let z : end + 1 - 1 ≡ end = omega arith in
     elim c.match-read.branch [
       | perform_body-in-Err-Wanting w ↦
           let e = wants_more d T (open_of o) b start end i k c.loop-end.invariant.0 c.loop-end-test.true (rw w.in-Err-Wanting.field-0-is at w.in-Err-Wanting.ensures).value in (
             omega (arith, c.loop-end.invariant.0, w.start-is),
-            same_turn d T (open_of o) b n start now.start c.loop-end.work now.work (m c.loop-end.sheet) (m now.sheet) w.start-is w.work-is (ap m w.sheet-is) (c.loop-end.invariant.1 ∙ e),
+            rw z (same_turn d T (open_of o) b end start now.start c.loop-end.work now.work (m c.loop-end.sheet) (m now.sheet) w.start-is w.work-is (ap m w.sheet-is) (c.loop-end.invariant.1 ∙ e)),
             ap g.S.Sheet.tied w.sheet-is ∙ c.loop-end.invariant.2,
           )
       | perform_body-in-Ok+in_ok-perform-in-Ok w ↦
@@ -142,7 +142,7 @@ perform_body-loop-end-preserved g t c =
           let last = w.perform.new in
           let e = goes_on d T (open_of o) b start end i k c.loop-end.invariant.0 c.loop-end-test.true (said_by w.in-Ok.statement) (ink_of last.work.pen (m last.sheet)) last.work.count w.in-Ok.ensures.value p.after in (
             omega (arith, w.start-is),
-            same_turn d T (open_of o) b n n now.start last.work now.work (m last.sheet) (m now.sheet) w.start-is w.work-is (ap m w.sheet-is) (c.loop-end.invariant.1 ∙ e),
+            rw z (same_turn d T (open_of o) b end end now.start last.work now.work (m last.sheet) (m now.sheet) w.start-is w.work-is (ap m w.sheet-is) (c.loop-end.invariant.1 ∙ e)),
             ap g.S.Sheet.tied w.sheet-is ∙ p.tied ∙ c.loop-end.invariant.2,
           )
     ]
@@ -151,4 +151,29 @@ pub perform_body-returns : goal.perform_body-returns
 perform_body-returns g t c =
     let o = c.args.calls.now in
     let i = ink_of c.loop-end.work.pen (g.S.Sheet.meaning c.loop-end.sheet) in
-    record { after = sym (c.loop-end.invariant.1 ∙ ends (calls_left o) (entries_of c.args.table.now) (open_of o) c.args.body.now c.loop-end.end c.loop-end.start _ i c.loop-end.work.count c.loop-end-test.false); tied = c.loop-end.invariant.2 }
+    record { after = sym (c.loop-end.invariant.1 ∙ ends (calls_left o) (entries_of c.args.table.now) (open_of o) c.args.body.now (c.loop-end.end - 1) c.loop-end.start _ i c.loop-end.work.count (omega (arith, c.loop-end-test.false))); tied = c.loop-end.invariant.2 }
+
+pub perform_body-returns-after-read-clause-after : goal.perform_body-returns-after-read-clause-after
+perform_body-returns-after-read-clause-after g t c =
+    let m : g.row.S.Denot → Meaning = g.S.Sheet.meaning in
+    let o = c.args.calls.now in
+    let d = calls_left o in
+    let T = entries_of c.args.table.now in
+    let b = c.args.body.now in
+    let start = c.loop-end.start in
+    let end = c.loop-end.end in
+    let i = ink_of c.loop-end.work.pen (m c.loop-end.sheet) in
+    let k = c.loop-end.work.count in
+    let now = c.match-read in
+    let all : length b ≤ end = search rules in
+    let over = ends d T (open_of o) b end now.start (take (end - now.start) (drop now.start b)) (ink_of now.work.pen (m now.sheet)) now.work.count all in
+    elim c.match-read.branch [
+      | perform_body-in-Err-Wanting w ↦
+          let e = wants_more d T (open_of o) b start end i k c.loop-end.invariant.0 c.loop-end-test.true (rw w.in-Err-Wanting.field-0-is at w.in-Err-Wanting.ensures).value in
+          sym (same_turn d T (open_of o) b end start now.start c.loop-end.work now.work (m c.loop-end.sheet) (m now.sheet) w.start-is w.work-is (ap m w.sheet-is) (c.loop-end.invariant.1 ∙ e) ∙ over)
+      | perform_body-in-Ok+in_ok-perform-in-Ok w ↦
+          let p = w.in_ok-perform-in-Ok.ensures in
+          let last = w.perform.new in
+          let e = goes_on d T (open_of o) b start end i k c.loop-end.invariant.0 c.loop-end-test.true (said_by w.in-Ok.statement) (ink_of last.work.pen (m last.sheet)) last.work.count w.in-Ok.ensures.value p.after in
+          sym (same_turn d T (open_of o) b end end now.start last.work now.work (m last.sheet) (m now.sheet) w.start-is w.work-is (ap m w.sheet-is) (c.loop-end.invariant.1 ∙ e) ∙ over)
+    ]

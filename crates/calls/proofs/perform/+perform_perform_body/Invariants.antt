@@ -1,4 +1,4 @@
-use Rattle.std.proofs.Common.{◌≡◌, ◌+◌, ◌-◌, ◌*◌, ◌≤◌, [], length, take, drop}
+use Rattle.std.proofs.Common.{◌≡◌, ◌+◌, ◌-◌, ◌*◌, ◌<◌, [], length, take, drop}
 use Rattle.run.specs.Performing.{perform, play}
 use Rattle.pen.specs.Views.{ink_of}
 use Rattle.calls.specs.Tables.{open_of, calls_left, entries_of}
@@ -14,6 +14,6 @@ abbrev pub invariant-perform_body-loop-end : goal.invariant-perform_body-loop-en
 invariant-perform_body-loop-end g l =
     let f = perform (calls_left l.calls) (entries_of l.table) (open_of l.calls) in
     let j = length (open_of l.calls) in
-    (l.start ≤ l.end)
-    × (play f j l.body 0 [] (ink_of l.initial.work.pen (g.S.Sheet.meaning l.initial.sheet)) l.initial.work.count ≡ play f j (drop l.end l.body) l.start (take (l.end - l.start) (drop l.start l.body)) (ink_of l.work.pen (g.S.Sheet.meaning l.sheet)) l.work.count)
+    (l.start < l.end)
+    × (play f j l.body 0 [] (ink_of l.initial.work.pen (g.S.Sheet.meaning l.initial.sheet)) l.initial.work.count ≡ play f j (drop (l.end - 1) l.body) l.start (take (l.end - 1 - l.start) (drop l.start l.body)) (ink_of l.work.pen (g.S.Sheet.meaning l.sheet)) l.work.count)
     × (g.S.Sheet.tied l.sheet ≡ g.S.Sheet.tied l.initial.sheet)
