@@ -122,6 +122,7 @@ pub fn glyph_row(code: u8, row: u8) -> u8
 }
 
 // The row at a place of the table: five dots at most.
+#[tactic(auto, unfolding(crate::specs::Glyphs::rows))]
 fn table_row(place: usize) -> u8
     requires { place < 760 }
     ensures value { result ≡ slice_index rows place }
