@@ -5,6 +5,7 @@ ghost use Rattle.statement.specs.Reading.{coordinate, lawful};
 use crate::layout::Aim;
 
 // The coordinate of two bytes, the high one first.
+// (No function of four bytes for two of them: the reader built with one took a tenth over its old time on jobs of calls, not 7 percent.)
 pub fn coordinate_of(high: u8, low: u8) -> i16
     ensures { result ≡ coordinate high low }
 {
