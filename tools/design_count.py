@@ -51,6 +51,17 @@ def numbers():
     return matching(r"fn (number|[a-z]+_number)\b") + matching(r"\b(header|kind): u8")
 
 
+def twins():
+    names = collections.defaultdict(list)
+    for f, name, params, clauses in functions():
+        names[name].append(f"{f}: {name}")
+    consts = collections.defaultdict(list)
+    for line in matching(r"^\s*(pub(\([a-z]+\))? )?const [A-Z_]+: [a-z0-9]+ = [^;]*;"):
+        consts[re.sub(r".*= (.*);", r"\1", line).replace("_", "")].append(line)
+    out = ["; ".join(w) for n, w in sorted(names.items()) if len(w) > 1 and n != "main"]
+    return out + ["; ".join(w) for v, w in sorted(consts.items()) if len(w) > 1]
+
+
 def loops():
     return matching(r"^\s*('[a-z]+: )?(for .* in .*\.\.[^.]|while |loop )") + matching(r"\.enumerate\(\)") \
         + matching(r"^\s+[a-z_.]+ \+= 1;$")
@@ -92,7 +103,12 @@ def switches():
     return matching(r"^\s*(return )?match ") + matching(r": (fn|&dyn|Box<dyn)") + matching(r"(is_[a-z_]+|has_[a-z_]+): bool")
 
 
-POINTS = {"1": [enums, flags, numbers], "3": [loops, items], "4": [conversions, errors], "5": [repeated], "6": [buffers], "7": [switches]}
+def proofs():
+    files = glob.glob("crates/*/proofs/**/*.antt", recursive=True)
+    return [f"{f}: {len(open(f, encoding='utf-8').readlines())}" for f in sorted(files)]
+
+
+POINTS = {"1": [enums, flags, numbers], "2": [twins], "3": [loops, items], "4": [conversions, errors], "5": [repeated], "6": [buffers], "7": [switches], "8": [proofs]}
 
 for point in sys.argv[1:] or POINTS:
     for part in POINTS[point]:
