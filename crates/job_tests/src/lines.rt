@@ -11,7 +11,7 @@ const PAGE: usize = 72;
 const ROOM: usize = 300;
 
 // Draws a job of side 8, and compares its report line.
-pub fn reports(heap: Global, job: &[u8], line: &[u8]) -> Result<(), Fail> {
+pub(crate) fn reports(heap: Global, job: &[u8], line: &[u8]) -> Result<(), Fail> {
     let mut reader = Reader::new(heap)?;
     let mut out = [0u8; ROOM];
     let Ok(count) = draw_job(&mut reader, job, &mut out) else {

@@ -3,7 +3,7 @@ use encoding::spell::spelling_of;
 use wording::read_words;
 
 // Whether a line reads as the statement that is spelt so, or that is refused under a number.
-pub fn reads(line: &[u8], answer: Result<&[u8], u8>) -> bool {
+pub(crate) fn reads(line: &[u8], answer: Result<&[u8], u8>) -> bool {
     let mut scratch = [0; 64];
     if line.len() > scratch.len() {
         return false;
@@ -16,7 +16,7 @@ pub fn reads(line: &[u8], answer: Result<&[u8], u8>) -> bool {
 }
 
 // Whether a line is that of no statement.
-pub fn is_unread(line: &[u8]) -> bool {
+pub(crate) fn is_unread(line: &[u8]) -> bool {
     let mut scratch = [0; 64];
     line.len() <= scratch.len() && read_words(line, &mut scratch).is_none()
 }
