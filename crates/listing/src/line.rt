@@ -1,5 +1,5 @@
 // Lines for statements and for the end of a stream.
-// Numbers are put by `format!`: the error of `write!` to a Vec is none of `list`, and no String holds the bytes of a name.
+// Numbers are put by `itoa`: a `format!` made a String for each, and took the listing of a stream half as long again.
 ghost use Rattle.std.specs.Prelude.{◌≡◌, [], ◌∷◌, ◌++◌, decimal, OnOk};
 ghost use Rattle.statement.specs.Views.{said_by, tail_said};
 ghost use Rattle.walking.specs.Stories.{told_by};
@@ -7,17 +7,27 @@ ghost use Rattle.listing.specs.Lines.{pair_text, at_text, tail_text, argument_te
 
 use crate::quote::put_string;
 use crate::words::{header_text, indent_of, name_of};
+use itoa::{Buffer, Integer};
 use spelling::parts::Parts;
 use statement::types::{Standing, Statement, Tail};
 use std::alloc::AllocError;
 use walking::walker::{End, Placed};
 
+// Puts a number behind a text.
+fn put_number<I: Integer>(out: &mut Vec<u8>, number: I) -> Result<(), AllocError>
+    ensures { OnOk result (out.new.items ≡ out.old.items ++ I.text number) }
+{
+    out.extend_from_slice(Buffer::new().format(number).as_bytes())
+}
+
 // Puts two coordinates behind a text, each after a space.
 fn put_pair(out: &mut Vec<u8>, x: i16, y: i16) -> Result<(), AllocError>
     ensures { OnOk result (out.new.items ≡ out.old.items ++ pair_text x y) }
 {
-    let pair = format!(in *out.allocator(); " {x} {y}")?;
-    out.extend_from_slice(pair.as_bytes())
+    out.extend_from_slice(b" ")?;
+    put_number(out, x)?;
+    out.extend_from_slice(b" ")?;
+    put_number(out, y)
 }
 
 // Puts a name behind a text, after a space.
@@ -32,8 +42,8 @@ fn put_name(out: &mut Vec<u8>, name: &[u8]) -> Result<(), AllocError>
 fn put_value(out: &mut Vec<u8>, value: u8) -> Result<(), AllocError>
     ensures { OnOk result (out.new.items ≡ out.old.items ++ (32 ∷ decimal value)) }
 {
-    let text = format!(in *out.allocator(); " {value}")?;
-    out.extend_from_slice(text.as_bytes())
+    out.extend_from_slice(b" ")?;
+    put_number(out, value)
 }
 
 // Puts the AT point of a tail behind a text.
@@ -97,10 +107,10 @@ pub(crate) fn put_line(
 ) -> Result<(), AllocError>
     ensures { OnOk result (out.new.items ≡ out.old.items ++ (line_of standing (told_by placed.entry) ++ (10 ∷ []))) }
 {
-    let indent = indent_of(standing, &placed.statement);
-    let name = name_of(&placed.statement);
-    let front = format!(in *out.allocator(); "{} {indent}{name}", placed.place)?;
-    out.extend_from_slice(front.as_bytes())?;
+    put_number(out, placed.place)?;
+    out.extend_from_slice(b" ")?;
+    out.extend_from_slice(indent_of(standing, &placed.statement).as_bytes())?;
+    out.extend_from_slice(name_of(&placed.statement).as_bytes())?;
     put_arguments(out, placed.statement)?;
     out.extend_from_slice(b"\n")
 }
