@@ -1,39 +1,42 @@
-// Bytes added to the spelling of a statement.
-ghost use Rattle.std.specs.Prelude.{◌≡◌, ◌+◌, ◌≤◌, ◌++◌, length};
-ghost use Rattle.arrayvec.specs.ArrayVec.{array_vec_len};
+// Bytes written into a buffer from a place on.
+ghost use Rattle.std.specs.Prelude.{◌≡◌, ◌+◌, ◌≤◌, length};
+ghost use Rattle.std.proofs.lemmas.List.Edits.{sets};
 ghost use Rattle.spelling.specs.Spelling.{spell_string, spell_pair};
 
-use crate::spell::Spelling;
-use statement::limits::LONGEST_SPELLING;
-
-// Adds bytes.
-pub(crate) fn put(out: &mut Spelling, bytes: &[u8])
-    requires { array_vec_len out.old + length bytes.now ≤ LONGEST_SPELLING }
-    ensures { out.new.items ≡ out.old.items ++ bytes.now }
+// Writes bytes from a place on, and gives the place after them.
+pub fn put(buffer: &mut [u8], place: usize, bytes: &[u8]) -> usize
+    requires { place + length bytes.now ≤ length buffer.old }
+    ensures after { result ≡ place + length bytes.now }
+    ensures bytes { buffer.new ≡ sets buffer.old place bytes.now }
 {
-    out.try_extend_from_slice(bytes).unwrap();
+    let end = place + bytes.len();
+    buffer[place..end].copy_from_slice(bytes);
+    end
 }
 
-// Adds a count and its bytes.
-pub(crate) fn put_string(out: &mut Spelling, bytes: &[u8])
-    requires { array_vec_len out.old + length (spell_string bytes.now) ≤ LONGEST_SPELLING }
-    ensures { out.new.items ≡ out.old.items ++ spell_string bytes.now }
+// Writes a count and its bytes from a place on, and gives the place after them.
+pub fn put_string(buffer: &mut [u8], place: usize, bytes: &[u8]) -> usize
+    requires few { length bytes.now ≤ 512 }
+    requires room { place + length (spell_string bytes.now) ≤ length buffer.old }
+    ensures after { result ≡ place + length (spell_string bytes.now) }
+    ensures bytes { buffer.new ≡ sets buffer.old place (spell_string bytes.now) }
 {
-    let [high, low] = (bytes.len() as u16).to_be_bytes();
-    if bytes.len() < 128 {
-        put(out, &[low]);
+    let n = bytes.len();
+    let next = if n < 128 {
+        put(buffer, place, &[n as u8])
     } else {
-        put(out, &[128 + high, low]);
-    }
-    put(out, bytes);
+        put(buffer, place, &[(128 + n / 256) as u8, (n % 256) as u8])
+    };
+    put(buffer, next, bytes)
 }
 
-// Adds two coordinates.
-pub(crate) fn put_pair(out: &mut Spelling, x: i16, y: i16)
-    requires { array_vec_len out.old + 4 ≤ LONGEST_SPELLING }
-    ensures { out.new.items ≡ out.old.items ++ spell_pair x y }
+// Writes two coordinates from a place on, and gives the place after them.
+pub fn put_pair(buffer: &mut [u8], place: usize, x: i16, y: i16) -> usize
+    requires { place + 4 ≤ length buffer.old }
+    ensures after { result ≡ place + 4 }
+    ensures bytes { buffer.new ≡ sets buffer.old place (spell_pair x y) }
 {
     let [a, b] = x.to_be_bytes();
     let [c, d] = y.to_be_bytes();
-    put(out, &[a, b, c, d]);
+    put(buffer, place, &[a, b, c, d])
 }

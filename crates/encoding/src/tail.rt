@@ -1,14 +1,12 @@
-// The tails of calls, added to a spelling.
+// The tails of calls, written into a buffer.
 ghost use Rattle.std.specs.Prelude.{◌≡◌, ◌+◌, ◌≤◌, true, ◌∷◌, ◌++◌, length, nat_le};
+ghost use Rattle.std.proofs.lemmas.List.Edits.{sets};
 ghost use Rattle.std.specs.Option.{option_map};
-ghost use Rattle.arrayvec.specs.ArrayVec.{array_vec_len};
 ghost use Rattle.statement.specs.Views.{bytes_of, tail_said};
 ghost use Rattle.spelling.specs.Spelling.{spell_as, spell_at, tail_byte, spell_tail, as_length, tail_fits};
 
 use crate::put::{put, put_pair};
-use crate::spell::Spelling;
 use spelling::extent::tail_extent;
-use statement::limits::LONGEST_SPELLING;
 use statement::types::{Part, Tail};
 
 // The code byte of a tail.
@@ -23,38 +21,48 @@ fn tail_byte(as_name: Option<Part<'_>>, at: Option<(i16, i16)>) -> u8
     }
 }
 
-// Adds the AS name of a tail, if it has one.
-fn put_as(out: &mut Spelling, as_name: Option<Part<'_>>)
+// Writes the AS name of a tail from a place on, and gives the place after it.
+fn put_as(buffer: &mut [u8], place: usize, as_name: Option<Part<'_>>) -> usize
     requires short { nat_le (as_length (option_map bytes_of as_name)) 8 ≡ true }
-    requires room { array_vec_len out.old + length (spell_as (option_map bytes_of as_name)) ≤ LONGEST_SPELLING }
-    ensures { out.new.items ≡ out.old.items ++ spell_as (option_map bytes_of as_name.entry) }
+    requires room { place + length (spell_as (option_map bytes_of as_name)) ≤ length buffer.old }
+    ensures after { result ≡ place + length (spell_as (option_map bytes_of as_name.entry)) }
+    ensures bytes { buffer.new ≡ sets buffer.old place (spell_as (option_map bytes_of as_name.entry)) }
 {
-    if let Some(name) = as_name {
-        out.push(name.bytes.len() as u8);
-        put(out, name.bytes);
+    match as_name {
+        None => place,
+        Some(name) => {
+            let next = put(buffer, place, &[name.bytes.len() as u8]);
+            put(buffer, next, name.bytes)
+        }
     }
 }
 
-// Adds the AT point of a tail, if it has one.
-fn put_at(out: &mut Spelling, at: Option<(i16, i16)>)
-    requires { array_vec_len out.old + length (spell_at at) ≤ LONGEST_SPELLING }
-    ensures { out.new.items ≡ out.old.items ++ spell_at at }
+// Writes the AT point of a tail from a place on, and gives the place after it.
+fn put_at(buffer: &mut [u8], place: usize, at: Option<(i16, i16)>) -> usize
+    requires { place + length (spell_at at) ≤ length buffer.old }
+    ensures after { result ≡ place + length (spell_at at) }
+    ensures bytes { buffer.new ≡ sets buffer.old place (spell_at at) }
 {
-    if let Some((x, y)) = at {
-        put_pair(out, x, y);
+    match at {
+        None => place,
+        Some((x, y)) => put_pair(buffer, place, x, y),
     }
 }
 
-// Adds a tail behind its length.
-pub(crate) fn put_tail(out: &mut Spelling, tail: Tail<'_>)
+// Writes a tail and its length from a place on, and gives the place after them.
+pub fn put_tail(buffer: &mut [u8], place: usize, tail: Tail<'_>) -> usize
     requires fits { tail_fits (tail_said tail) ≡ true }
-    requires room { array_vec_len out.old + (1 + length (spell_tail (tail_said tail))) ≤ LONGEST_SPELLING }
-    ensures { out.new.items ≡ out.old.items ++ (length (spell_tail (tail_said tail.entry)) ∷ spell_tail (tail_said tail.entry)) }
+    requires room { place + (1 + length (spell_tail (tail_said tail))) ≤ length buffer.old }
+    ensures after { result ≡ place + (1 + length (spell_tail (tail_said tail.entry))) }
+    ensures bytes { buffer.new ≡ sets buffer.old place (length (spell_tail (tail_said tail.entry)) ∷ spell_tail (tail_said tail.entry)) }
 {
-    out.push(tail_extent(tail) as u8);
-    if let Tail::Coded { as_name, at } = tail {
-        out.push(tail_byte(as_name, at));
-        put_as(out, as_name);
-        put_at(out, at);
+    match tail {
+        Tail::Empty => put(buffer, place, &[0]),
+        Tail::Coded { as_name, at } => {
+            let size = tail_extent(tail) as u8;
+            let next = put(buffer, place, &[size, tail_byte(as_name, at)]);
+            let next = put_as(buffer, next, as_name);
+            put_at(buffer, next, at)
+        }
     }
 }

@@ -27,13 +27,20 @@ fn check_pair(aim: Aim, x: i16, y: i16) -> Result<(), Fault>
     hold(are_lawful(aim, x, y), Fault::WrongCoordinate)
 }
 
-// What a string or a name must keep: its length, then its characters.
-// (A flag and no closure: a string that is too long would not ask the closure, and the contract would be no equation.)
-fn check_string(bytes: &[u8], longest: usize, is_written_right: bool) -> Result<(), Fault>
-    ensures { result_err result ≡ first_of (unless (nat_le (length bytes.now) longest) Fault.TooLong) (unless is_written_right Fault.WrongCharacter) }
+// What a text must keep: its length, then its characters.
+fn check_text(text: &[u8]) -> Result<(), Fault>
+    ensures { result_err result ≡ first_of (unless (nat_le (length text.now) 512) Fault.TooLong) (unless (is_text text.now) Fault.WrongCharacter) }
 {
-    hold(bytes.len() <= longest, Fault::TooLong)?;
-    hold(is_written_right, Fault::WrongCharacter)
+    hold(text.len() <= LONGEST_STRING, Fault::TooLong)?;
+    hold(is_text(text), Fault::WrongCharacter)
+}
+
+// What the name of a definition must keep: its length, then its characters.
+fn check_name(name: &[u8]) -> Result<(), Fault>
+    ensures { result_err result ≡ first_of (unless (nat_le (length name.now) 8) Fault.TooLong) (unless (is_name name.now) Fault.WrongCharacter) }
+{
+    hold(name.len() <= LONGEST_NAME, Fault::TooLong)?;
+    hold(is_name(name), Fault::WrongCharacter)
 }
 
 // Whether the AS name of a tail, if any, is short enough.
@@ -63,14 +70,16 @@ fn check_call(name: Part<'_>, tail: Tail<'_>) -> Result<(), Fault>
 }
 
 // What a statement must keep to be written.
+// (An arm for each aim: with one for both, which asked for the aim once more, a pair took 33 instructions in place of 20.)
 pub fn check(statement: &Statement<'_>) -> Result<(), Fault>
     ensures { result_err result ≡ fault_of (said_by statement.now) }
 {
     match Parts::from(*statement) {
-        Parts::Pair(_, aim, x, y) => check_pair(aim, x, y),
-        Parts::Text(_, text) => check_string(text.bytes, LONGEST_STRING, is_text(text.bytes)),
-        Parts::Escape(_, text) => check_string(text.bytes, LONGEST_STRING, true),
-        Parts::Heading(name, _) => check_string(name.bytes, LONGEST_NAME, is_name(name.bytes)),
+        Parts::Pair(_, Aim::Absolute, x, y) => check_pair(Aim::Absolute, x, y),
+        Parts::Pair(_, Aim::Relative, x, y) => check_pair(Aim::Relative, x, y),
+        Parts::Text(_, text) => check_text(text.bytes),
+        Parts::Escape(_, text) => hold(text.bytes.len() <= LONGEST_STRING, Fault::TooLong),
+        Parts::Heading(name, _) => check_name(name.bytes),
         Parts::Calling(name, tail) => check_call(name, tail),
         Parts::Bare(_) | Parts::Value(..) => Ok(()),
     }

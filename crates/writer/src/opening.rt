@@ -1,12 +1,12 @@
 // Asking for and making a writer, and opening pictures and definitions.
-ghost use Rattle.std.specs.Prelude.{◌≡◌, ◌+◌, ◌<◌, [], length, Ok};
+ghost use Rattle.std.specs.Prelude.{◌≡◌, ◌+◌, [], length, Ok};
 ghost use Rattle.std.proofs.lemmas.List.Edits.{sets};
 ghost use Rattle.statement.specs.Statements.{erase};
 ghost use Rattle.spelling.specs.Spelling.{spell};
 ghost use Rattle.writer.specs.Names.{known, with_name};
 ghost use Rattle.writer.specs.Answers.{make_answer, picture_answer, definition_answer, heading};
 
-use crate::faults::heading_of;
+use crate::faults::heading_size;
 use crate::state::{Slip, Writer};
 use crate::types::{Names, Opened, Refusal};
 use spelling::code::code_of;
@@ -40,30 +40,6 @@ pub fn make<'a>(buffer: &'a mut [u8]) -> Writer<'a>
 }
 
 impl<'a> Writer<'a> {
-    // Opens a slip that begins with bytes that leave one free.
-    fn open(self, bytes: &[u8]) -> Slip<'a>
-        requires { self.used + length bytes.now < length self.buffer.now }
-        ensures opened { result.opened ≡ Opened.Picture }
-        ensures names { result.names ≡ self.entry.names }
-        ensures used { result.used ≡ self.entry.used + length bytes.now }
-        ensures bytes { result.buffer.now ≡ sets self.entry.buffer.now self.entry.used bytes.now }
-        ensures tied { result.buffer.ghost_name ≡ self.entry.buffer.ghost_name }
-    {
-        let Writer {
-            buffer,
-            used,
-            names,
-        } = self;
-        let mut slip = Slip {
-            buffer,
-            used,
-            names,
-            opened: Opened::Picture,
-        };
-        slip.put(bytes);
-        slip
-    }
-
     // Whether a picture may be opened.
     pub fn ask_picture(&self) -> Result<(), Refusal>
         ensures { result ≡ picture_answer self.now.used (length self.now.buffer.now) }
@@ -84,18 +60,29 @@ impl<'a> Writer<'a> {
         ensures bytes { result.buffer.now ≡ sets self.entry.buffer.now self.entry.used (spell erase) }
         ensures tied { result.buffer.ghost_name ≡ self.entry.buffer.ghost_name }
     {
-        self.open(&[code_of(&Statement::Erase)])
+        let Writer {
+            buffer,
+            used,
+            names,
+        } = self;
+        buffer[used] = code_of(&Statement::Erase);
+        Slip {
+            buffer,
+            used: used + 1,
+            names,
+            opened: Opened::Picture,
+        }
     }
 
     // Whether a definition of this name and header may be opened; the header is any byte, since a wrong one is refused too.
     pub fn ask_definition(&self, name: &[u8], header: u8) -> Result<(), Refusal>
         ensures { result ≡ definition_answer (known self.now.names) self.now.used (length self.now.buffer.now) name.now header }
     {
-        let spelling = heading_of(name, header)?;
+        let size = heading_size(name, header)?;
         if self.names.is_one_too_many(name) {
             return Err(Refusal::NoRoom);
         }
-        if spelling.len() >= self.buffer.len() - self.used {
+        if size >= self.buffer.len() - self.used {
             return Err(Refusal::Buffer);
         }
         Ok(())
@@ -110,10 +97,18 @@ impl<'a> Writer<'a> {
         ensures bytes { result.buffer.now ≡ sets self.entry.buffer.now self.entry.used (spell (heading name.now header)) }
         ensures tied { result.buffer.ghost_name ≡ self.entry.buffer.ghost_name }
     {
-        let spelling = heading_of(name, header).unwrap();
-        let mut slip = self.open(spelling.as_slice());
-        slip.names.add(name);
-        slip.opened = Opened::Definition(slip.used);
+        let Writer {
+            buffer,
+            used,
+            names,
+        } = self;
+        let mut slip = Slip {
+            buffer,
+            used,
+            names,
+            opened: Opened::Picture,
+        };
+        slip.head(name, header);
         slip
     }
 }

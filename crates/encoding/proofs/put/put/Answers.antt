@@ -1,6 +1,6 @@
 use Rattle.std.proofs.Common.{arith}
-use Rattle.writer.proofs.Parts.{put_part}
-use Rattle.writer.proofs.state.Slip.put.Goals as goal
+use Rattle.encoding.proofs.Puts.{put_part}
+use Rattle.encoding.proofs.put.put.Goals as goal
 
 pub returns-clause-bytes : goal.returns-clause-bytes
 returns-clause-bytes c = put_part _ _ _ _ _ (omega arith) c.copy_from_slice.ensures.after (omega arith)
