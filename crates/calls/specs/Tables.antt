@@ -1,14 +1,14 @@
 -- What names, definitions and the table of definitions mean.
-use Rattle.std.specs.Prelude.{ℕ, suc, ◌-◌, Bool, cond, List, [], ◌∷◌, ◌++◌, map, length, Some, None, vec_items, Option, nat_le}
+use Rattle.std.specs.Prelude.{ℕ, suc, ◌-◌, Bool, cond, List, [], ◌∷◌, ◌++◌, map, length, take, Some, None, vec_items, Option, nat_le}
 use Rattle.run.specs.Performing.{Entry, same_bytes}
 use Rattle.run.specs.Runs.{store, is_full}
-use Rattle.arrayvec.specs.ArrayVec.{ArrayVec}
+use Rattle.calls.specs.declared.types.Name.{Name}
 use Rattle.calls.specs.declared.nesting.OpenNames.{OpenNames}
 use Rattle.calls.specs.declared.types.Definition.{Definition}
 use Rattle.calls.specs.declared.types.Table.{Table}
 
-abbrev pub letters_of : ArrayVec ℕ → List ℕ
-letters_of n = n.items
+abbrev pub letters_of : Name → List ℕ
+letters_of n = take n.len n.bytes
 
 -- the open names, the outermost first
 abbrev pub open_of : OpenNames → List (List ℕ)
@@ -19,7 +19,7 @@ abbrev pub calls_left : OpenNames → ℕ
 calls_left o = 8 - length o.names.items
 
 abbrev pub entry_of : Definition → Entry
-entry_of d = record { name = letters_of d.name; header = d.header; body = d.body.items }
+entry_of d = record { name = letters_of d.name; header = d.header; body = take d.len d.body }
 
 abbrev pub entries_of : Table → List Entry
 entries_of t = map entry_of (vec_items t.entries)

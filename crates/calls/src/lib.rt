@@ -3,6 +3,7 @@
 
 mod definition;
 mod limits;
+mod names;
 mod nesting;
 mod perform;
 mod steps;

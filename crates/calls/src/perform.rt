@@ -41,7 +41,13 @@ fn perform<'t, S: Sheet>(
     };
     let entry = table.entry(at);
     enter(entry, calls, name.bytes).map_err(failed)?;
-    perform_body(table, &calls.with(&entry.name), work, sheet, &entry.body)
+    perform_body(
+        table,
+        &calls.with(entry.name.letters()),
+        work,
+        sheet,
+        entry.recorded(),
+    )
 }
 
 // Performs a body, where its own call is the last of these that are open.

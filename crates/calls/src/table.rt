@@ -38,23 +38,23 @@ impl Table {
     }
 
     // Gives a name its definition, in the place of an older one; nothing changes where there is no room.
-    pub fn store(&mut self, definition: Definition)
-        ensures { entries_of self.new ≡ stored_in (entries_of self.old) (entry_of definition) }
+    pub fn store(&mut self, definition: &Definition)
+        ensures { entries_of self.new ≡ stored_in (entries_of self.old) (entry_of definition.now) }
     {
-        let place = self.find(&definition.name);
+        let place = self.find(definition.name.letters());
         self.put(place, definition);
     }
 
     // Puts a definition in the place of its name, or at the end if it has none.
-    fn put(&mut self, place: Option<usize>, definition: Definition)
+    fn put(&mut self, place: Option<usize>, definition: &Definition)
         requires { IfSome place (λ i. i < vec_len self.old.entries) }
-        ensures { place ≡ place_from (entries_of self.old) 0 (letters_of definition.name) → entries_of self.new ≡ stored_in (entries_of self.old) (entry_of definition) }
+        ensures { place ≡ place_from (entries_of self.old) 0 (letters_of definition.now.name) → entries_of self.new ≡ stored_in (entries_of self.old) (entry_of definition.now) }
     {
         match place {
             Some(at) => self.replace(at, definition),
             None => {
                 if self.entries.len() < MOST_ENTRIES {
-                    self.entries.push_reserved(definition);
+                    self.entries.push_reserved(*definition);
                 }
             }
         }
@@ -69,11 +69,11 @@ impl Table {
     }
 
     // Puts a definition in the place of an entry.
-    fn replace(&mut self, at: usize, definition: Definition)
+    fn replace(&mut self, at: usize, definition: &Definition)
         requires { at < vec_len self.old.entries }
-        ensures { self.new.entries.items ≡ slice_set self.old.entries.items at definition }
+        ensures { self.new.entries.items ≡ slice_set self.old.entries.items at definition.now }
     {
-        *self.slot(at) = definition;
+        *self.slot(at) = *definition;
     }
 
     // One entry, to be written; that it is lent is a form that the project fixes.

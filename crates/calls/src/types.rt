@@ -2,21 +2,27 @@
 ghost use Rattle.std.specs.Prelude.{◌≡◌, ◌≤◌, vec_len, vec_capacity};
 ghost use Rattle.calls.specs.Outcomes.{outside};
 
-use arrayvec::ArrayVec;
 use pen::types::Pen;
 use run::types::{Fault, Spot};
 use statement::limits::{LONGEST_BODY, LONGEST_NAME};
 use statement::types::Header;
 
-// A name: its letters.
-pub type Name = ArrayVec<u8, LONGEST_NAME>;
+// A name: its first bytes. No `ArrayVec`, here and in a definition: that is not Copy, and names and definitions are.
+#[derive(Clone, Copy)]
+pub struct Name {
+    pub bytes: [u8; LONGEST_NAME],
+    pub len: usize,
+    ghost fits: { len ≤ 8 },
+}
 
-// A definition: its name, its header and the bytes of its body.
-#[derive(Drop)]
+// A definition: its name, its header, and its body, which is the first bytes.
+#[derive(Clone, Copy)]
 pub struct Definition {
     pub name: Name,
     pub header: Header,
-    pub body: ArrayVec<u8, LONGEST_BODY>,
+    pub body: [u8; LONGEST_BODY],
+    pub len: usize,
+    ghost fits: { len ≤ 1024 },
 }
 
 // The definitions that have ended, at most 32.
@@ -29,7 +35,7 @@ pub struct Table {
 }
 
 // What performing changes beside the sheet: the pen, and how many statements of the picture were counted.
-#[derive(Drop)]
+#[derive(Clone, Copy)]
 pub struct Work {
     pub pen: Pen,
     pub count: usize,

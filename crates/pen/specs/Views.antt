@@ -1,7 +1,7 @@
 -- What a pen and a sheet together mean.
-use Rattle.std.specs.Prelude.{ℕ, cond, List, reverse, Ok, Err, Result}
+use Rattle.std.specs.Prelude.{ℕ, Bool, ◌&&◌, cond, List, reverse, take, Ok, Err, Result}
+use Rattle.std.specs.Ordering.{int_eq}
 use Rattle.std.specs.Result.{result_err}
-use Rattle.arrayvec.specs.ArrayVec.{ArrayVec}
 use Rattle.geometry.specs.declared.field.Point.{Point}
 use Rattle.sheet.specs.Meanings.{Meaning}
 use Rattle.statement.specs.Statements.{plain, call, Said, erase, endpic, subhed, subend, act}
@@ -9,11 +9,20 @@ use Rattle.run.specs.declared.types.Fault.{Fault}
 use Rattle.run.specs.declared.types.Fault.TheVariants as fault
 use Rattle.run.specs.Inks.{Ink, Drawn, good, on_field}
 use Rattle.run.specs.Performing.{effect}
+use Rattle.pen.specs.declared.types.MarkStack.{MarkStack}
 use Rattle.pen.specs.declared.types.Pen.{Pen}
 
--- the points that were marked, the last of them first
-abbrev pub stacked : ArrayVec Point → List Point
-stacked marks = reverse marks.items
+-- the points that were marked, in their order
+abbrev pub points_of : MarkStack → List Point
+points_of s = take s.used s.points
+
+-- two points have the same coordinates
+abbrev pub same_point : Point → Point → Bool
+same_point p q = int_eq p.x q.x && int_eq p.y q.y
+
+-- the same, the last of them first
+abbrev pub stacked : MarkStack → List Point
+stacked s = reverse (points_of s)
 
 abbrev pub ink_of : Pen → Meaning → Ink
 ink_of p m = record { beam = p.beam; mode = p.mode; intensity = p.intensity; marks = stacked p.marks; sheet = m }

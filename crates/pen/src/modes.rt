@@ -5,8 +5,7 @@ ghost use Rattle.run.specs.Performing.{mode_of, set_mode};
 ghost use Rattle.run.specs.Runs.{begun, blank};
 ghost use Rattle.pen.specs.Views.{ink_of};
 
-use crate::types::Pen;
-use arrayvec::ArrayVec;
+use crate::types::{MarkStack, Pen};
 use geometry::Point;
 use mark::LineMode;
 use sheet::Sheet;
@@ -32,7 +31,7 @@ impl Pen {
             beam: Point::default(),
             mode: LineMode::Solid,
             intensity: 128,
-            marks: ArrayVec::new(),
+            marks: MarkStack::new(),
         }
     }
 

@@ -1,7 +1,12 @@
 -- The bytes of a statement that has begun, and the name in a heading.
-use Rattle.std.specs.Prelude.{◌≤◌, Bool, true, false, length}
+use Rattle.std.specs.Prelude.{ℕ, ◌≤◌, Bool, true, false, List, length, take}
 use Rattle.statement.specs.Statements.{Said, erase, endpic, subhed, subend, act}
 use Rattle.statement.specs.Reading.{Shape, more, refused, whole}
+use Rattle.reader.specs.declared.waiting.Held.{Held}
+
+-- the bytes that are held
+abbrev pub bytes_held : Held → List ℕ
+bytes_held h = take h.len h.bytes
 
 -- more bytes are wanted
 abbrev pub is_more : Shape → Bool

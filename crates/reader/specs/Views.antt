@@ -12,6 +12,7 @@ use Rattle.reader.specs.declared.state.State.{State}
 use Rattle.reader.specs.declared.settle.Settled.{Settled}
 use Rattle.reader.specs.declared.settle.Settled.TheVariants.{More, Done}
 use Rattle.reader.specs.declared.reader.Reader.{Reader}
+use Rattle.reader.specs.Held.{bytes_held}
 use Rattle.reader.specs.Stances.{stance_of}
 
 abbrev pub stance_in : State → Stance
@@ -63,4 +64,4 @@ Waiting (Err e) t = Unit {0}
 
 -- the whole state of a reader, with a sheet of this meaning
 abbrev pub config_of : Reader → Meaning → Config
-config_of r m = record { drawing = drawing_of r.life r.held.items r.state m; read = r.read; count = r.state.work.count }
+config_of r m = record { drawing = drawing_of r.life (bytes_held r.held) r.state m; read = r.read; count = r.state.work.count }

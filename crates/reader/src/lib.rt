@@ -7,3 +7,4 @@ mod obey;
 pub mod reader;
 mod settle;
 mod state;
+mod waiting;

@@ -36,15 +36,10 @@ impl State {
         ensures tied { S.tied sheet.new ≡ S.tied sheet.old }
     {
         match read(self.standing, bytes) {
-            Ok(statement) => {
-                self.obey(sheet, statement, bytes)
-                    .map_err(|failure| Refusal {
-                        fault: failure.fault,
-                        place: at,
-                        spot: failure.spot,
-                    })?;
-                Ok(Settled::Done)
-            }
+            Ok(statement) => match self.obey(sheet, statement, bytes, at) {
+                Ok(()) => Ok(Settled::Done),
+                Err(refusal) => Err(refusal),
+            },
             Err(Stop::Wanting) => Ok(Settled::More),
             Err(Stop::Wrong(fault)) => Err(Refusal::at(fault.into(), at)),
         }

@@ -3,6 +3,7 @@ ghost use Rattle.std.specs.Prelude.{◌≡◌, ◌&&◌};
 ghost use Rattle.sheet.specs.Meanings.{Meaning};
 ghost use Rattle.run.specs.Runs.{is_outside, is_empty, finish};
 ghost use Rattle.reader.specs.Answers.{finish_answer};
+ghost use Rattle.reader.specs.Held.{bytes_held};
 ghost use Rattle.reader.specs.Views.{stance_in, config_of};
 
 use crate::answers::Refused;
@@ -13,7 +14,7 @@ use statement::types::Standing;
 impl Reader {
     // Whether the reader stands outside between statements.
     fn is_between(&self) -> bool
-        ensures { result ≡ (is_outside (stance_in self.now.state) && is_empty self.now.held.items) }
+        ensures { result ≡ (is_outside (stance_in self.now.state) && is_empty (bytes_held self.now.held)) }
     {
         self.state.standing == Standing::Outside && self.held.is_empty()
     }

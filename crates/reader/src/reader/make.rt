@@ -7,7 +7,7 @@ ghost use Rattle.reader.specs.Views.{config_of};
 
 use crate::reader::Reader;
 use crate::state::State;
-use arrayvec::ArrayVec;
+use crate::waiting::Held;
 use calls::types::{Definition, Table, Work};
 use pen::types::Pen;
 use run::types::Life;
@@ -20,7 +20,7 @@ fn over(table: Table) -> Reader
     ensures { (m : Meaning) → config_of result m ≡ begun m }
 {
     Reader {
-        held: ArrayVec::new(),
+        held: Held::none(),
         read: 0,
         life: Life::Live,
         state: State {

@@ -27,7 +27,7 @@ impl Reader {
         }
         self.read += 1;
         self.held.push(byte);
-        match self.state.settle(sheet, &self.held, at) {
+        match self.state.settle(sheet, self.held.as_slice(), at) {
             Ok(Settled::More) => {}
             Ok(Settled::Done) => self.held.clear(),
             Err(refusal) => {

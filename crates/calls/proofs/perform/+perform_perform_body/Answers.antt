@@ -88,7 +88,7 @@ perform-returns g t c =
     let f : None ≡ hindrance (entry_of e) n (open_of o) = search rules in
     let inner = c.with.result in
     let more : open_of inner ≡ open_of o ++ ((entry_of e).name ∷ []) = search rules in
-    let b : c.deref-2.result.now ≡ (entry_of e).body = search rules in
+    let b : c.recorded.result.now ≡ (entry_of e).body = search rules in
     let q = rw b at c.perform_body.ensures.after in
     record {
       after = calls_in (calls_left o) (entries_of c.args.table.now) (open_of o) c.args.offset (ink_of c.args.work.now.pen m) k (left_of o) n (tail_said c.in-Insts.tail) (ink_of c.arrive.new.pen m) x (c.arrive.ensures m) (ap said_by c.in-Insts.is) free (entry_of e) (calls_left inner) (open_of inner) w f (left_of inner) more q;

@@ -4,6 +4,7 @@ use Rattle.statement.specs.declared.types.Standing.TheVariants as standing
 use Rattle.run.specs.Performing.{Entry}
 use Rattle.run.specs.Runs.{is_outside, is_empty}
 use Rattle.calls.specs.Tables.{entry_of}
+use Rattle.reader.specs.Held.{bytes_held}
 use Rattle.reader.specs.Stances.{stance_of}
 use Rattle.reader.proofs.reader.Reader.is_between.Goals as goal
 
@@ -20,10 +21,10 @@ pub returns-then-eq : goal.returns-then-eq
 returns-then-eq c =
     let r = c.args.self.now in
     let here : r.state.standing ≡ standing.Outside = search rules in
-    c.is_empty.ensures ∙ none_held r.held.items ∙ sym (ap (λ z. is_outside (stance_of z (entry_of r.state.draft)) && is_empty r.held.items) here)
+    c.is_empty.ensures ∙ none_held (bytes_held r.held) ∙ sym (ap (λ z. is_outside (stance_of z (entry_of r.state.draft)) && is_empty (bytes_held r.held)) here)
 
 pub returns-else-eq : goal.returns-else-eq
 returns-else-eq c =
     let r = c.args.self.now in
     let there : r.state.standing ≡ standing.Outside → ⊥ = λ e. search rules in
-    c.if-eq.false ∙ sym (ap (λ z. z && is_empty r.held.items) (elsewhere r.state.standing (entry_of r.state.draft) there))
+    c.if-eq.false ∙ sym (ap (λ z. z && is_empty (bytes_held r.held)) (elsewhere r.state.standing (entry_of r.state.draft) there))

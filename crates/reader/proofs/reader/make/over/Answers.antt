@@ -6,6 +6,7 @@ use Rattle.run.specs.Performing.{Entry}
 use Rattle.run.specs.Runs.{Config, outside, begun}
 use Rattle.pen.specs.Views.{ink_of}
 use Rattle.calls.specs.Tables.{entries_of}
+use Rattle.reader.specs.Held.{bytes_held}
 use Rattle.reader.proofs.reader.make.over.Goals as goal
 
 -- a new reader with these bytes held, this ink and these entries
@@ -17,4 +18,4 @@ new_is m h i T d e f = ap (λ z. new_with z i T) d ∙ ap (λ z. new_with [] z T
 
 pub returns : goal.returns
 returns c m =
-    new_is m c.new.result.items (ink_of c.new-2.result m) (entries_of c.args.table) c.new.ensures (c.new-2.ensures m) c.requires
+    new_is m (bytes_held c.none.result) (ink_of c.new.result m) (entries_of c.args.table) c.none.ensures (c.new.ensures m) c.requires

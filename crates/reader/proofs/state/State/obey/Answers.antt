@@ -11,7 +11,7 @@ returns-in-Outside-Subhed g c =
     let a = c.in-Outside-Subhed in
     let m = g.S.Sheet.meaning c.args.sheet.now in
     record {
-      after = λ at h. c.begin_definition.ensures at m h ∙ sym (obeyed c.args.self.now c.args.bytes.now at h m standing.Outside c.args.statement (stmt.Subhed a.name a.header) a.is-0 a.is-1);
+      after = λ h. c.begin_definition.ensures m h ∙ sym (obeyed c.args.self.now c.args.bytes.now c.args.at h m standing.Outside c.args.statement (stmt.Subhed a.name a.header) a.is-0 a.is-1);
       tied = refl;
     }
 
@@ -20,7 +20,7 @@ returns-in-Picture-Subhed g c =
     let a = c.in-Picture-Subhed in
     let m = g.S.Sheet.meaning c.args.sheet.now in
     record {
-      after = λ at h. c.begin_definition-in-Picture-Subhed.ensures at m h ∙ sym (obeyed c.args.self.now c.args.bytes.now at h m standing.Picture c.args.statement (stmt.Subhed a.name a.header) a.is-0 a.is-1);
+      after = λ h. c.begin_definition-in-Picture-Subhed.ensures m h ∙ sym (obeyed c.args.self.now c.args.bytes.now c.args.at h m standing.Picture c.args.statement (stmt.Subhed a.name a.header) a.is-0 a.is-1);
       tied = refl;
     }
 
@@ -29,7 +29,7 @@ returns-in-Picture-default g c =
     let m = g.S.Sheet.meaning c.args.sheet.now in
     let f : is_act (said_by c.args.statement) ≡ true = search rules in
     record {
-      after = λ at h. c.perform.ensures.after at h ∙ performs c.args.self.now c.args.bytes.now at h m (said_by c.args.statement) c.in-Picture-default.is-0 f;
+      after = λ h. c.perform.ensures.after h ∙ performs c.args.self.now c.args.bytes.now c.args.at h m (said_by c.args.statement) c.in-Picture-default.is-0 f;
       tied = c.perform.ensures.tied;
     }
 
@@ -38,7 +38,7 @@ returns-in-Definition-Subend g c =
     let a = c.in-Definition-Subend in
     let m = g.S.Sheet.meaning c.args.sheet.now in
     record {
-      after = λ at h. c.end_definition.ensures m h _ a.is-0 ∙ sym (obeyed c.args.self.now c.args.bytes.now at h m _ c.args.statement stmt.Subend a.is-0 a.is-1);
+      after = λ h. c.end_definition.ensures m h _ a.is-0 ∙ sym (obeyed c.args.self.now c.args.bytes.now c.args.at h m _ c.args.statement stmt.Subend a.is-0 a.is-1);
       tied = refl;
     }
 
@@ -48,6 +48,6 @@ returns-in-Definition-default g c =
     let m = g.S.Sheet.meaning c.args.sheet.now in
     let f : is_act (said_by c.args.statement) ≡ true = search rules in
     record {
-      after = λ at h. c.record_statement.ensures at m h _ a.is-0 ∙ records c.args.self.now c.args.bytes.now at h m _ (said_by c.args.statement) a.is-0 f;
+      after = λ h. c.record_statement.ensures m h _ a.is-0 ∙ records c.args.self.now c.args.bytes.now c.args.at h m _ (said_by c.args.statement) a.is-0 f;
       tied = refl;
     }

@@ -1,14 +1,16 @@
-use Rattle.std.proofs.Common.{◌≡◌, rules}
-use Rattle.std.specs.Option.{option_map}
+use Rattle.std.proofs.Common.{Ok, Err, rules}
 use Rattle.std.specs.Result.{result_err}
 use Rattle.calls.specs.Outcomes.{outside}
 use Rattle.calls.specs.Tables.{entry_of}
 use Rattle.reader.proofs.Drafts.{recorded_as}
 use Rattle.reader.proofs.state.State.record_statement.Goals as goal
 
-pub returns : goal.returns
-returns c at m h home e =
-    let w = c.args.self.now in
+pub returns-in-Ok : goal.returns-in-Ok
+returns-in-Ok c m h home e =
     let k = c.record in
-    let r : result_err c.map_err.result ≡ option_map outside (result_err k.result) = search rules in
-    recorded_as w m h home c.args.bytes.now at c.map_err.result (result_err k.result) (entry_of k.new.self) r k.ensures.value k.ensures.after e
+    recorded_as c.args.self.now m h home c.args.bytes.now c.args.at (Ok tt) (result_err k.result) (entry_of k.new.self) (search rules) k.ensures.value k.ensures.after e
+
+pub returns-in-Err : goal.returns-in-Err
+returns-in-Err c m h home e =
+    let k = c.record in
+    rw c.at.ensures (recorded_as c.args.self.now m h home c.args.bytes.now c.args.at (Err (outside c.in-Err.fault)) (result_err k.result) (entry_of k.new.self) (search rules) k.ensures.value k.ensures.after e)
