@@ -9,8 +9,9 @@ use geometry::{Line, Side};
 pub fn on_sheet(side: Side, pixel: (i32, i32)) -> bool
     ensures { result ≡ on_sheet side.pixels pixel }
 {
-    let places = 0..side.pixels() as i32;
-    places.contains(&pixel.0) && places.contains(&pixel.1)
+    // comparisons; tried: a range's `contains`, with which a job of lines took up to a third longer
+    let end = side.pixels() as i32;
+    0 <= pixel.0 && pixel.0 < end && 0 <= pixel.1 && pixel.1 < end
 }
 
 // Whether a line inks a pixel by its point k.

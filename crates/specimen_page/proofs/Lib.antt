@@ -1,2 +1,3 @@
 pub mod Turns
 pub mod Chains
+pub mod Counts

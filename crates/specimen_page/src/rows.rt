@@ -58,9 +58,14 @@ fn inked_in_row<S: Sheet>(sheet: &S, row: u16) -> usize
     ensures value { result ≡ inked_in_row (S.meaning sheet.now) row }
     ensures small { result ≤ 2048 }
 {
-    (0..sheet.side().pixels())
-        .filter(|column| is_inked(sheet, row, *column))
-        .count()
+    // a loop; tried: `filter` and `count`, with which the count took a third longer
+    let mut count = 0;
+    for column in 0..sheet.side().pixels() {
+        if is_inked(sheet, row, column) {
+            count += 1;
+        }
+    }
+    count
 }
 
 // How many pixels of the page are inked.
