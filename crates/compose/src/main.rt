@@ -2,6 +2,7 @@
 #![tactic(auto)]
 
 use composing::compose::compose;
+use composing::report::report;
 use statement::limits::LONGEST_STREAM;
 use std::io::{Read, Write};
 
@@ -17,7 +18,7 @@ fn main(rt: HostRuntime) -> anyhow::Result<()> {
             out.truncate(n);
             rt.stdout().write_all(out.as_slice())?;
         }
-        Err(failure) => println!(rt; "{failure}")?,
+        Err(failure) => println!(rt; "{}", report(heap, failure)?)?,
     }
     Ok(())
 }

@@ -1,16 +1,37 @@
 // A job drawn and printed.
 ghost use Rattle.std.specs.Prelude.{◌≡◌, length, Ok};
 ghost use Rattle.raster.specs.Asking.{asked};
+ghost use Rattle.run.specs.Runs.{run, finish, report_of};
+ghost use Rattle.reader.specs.Views.{config_of};
 ghost use Rattle.play.specs.Plays.{New};
 ghost use Rattle.job.specs.Jobs.{admission, job_text, job_answer, shown, drawing_by, job_text_by, fit_answer, answer_by, leaves, Came, LeavesReader};
 
 use crate::admit::admit;
 use crate::job::Job;
 use crate::refusal::Refusal;
-use play::play_cut;
+use play::{Call, play_cut, play_with};
 use printing::print;
 use raster::page_bytes;
 use reader::reader::Reader;
+use run::types::Report;
+use sheet::Sheet;
+
+// Plays a stream and a finish: whole, by the call that plays every list of calls, or in pieces of these lengths and then the rest.
+fn play_stream<S: Sheet>(
+    reader: &mut Reader,
+    sheet: &mut S,
+    stream: &[u8],
+    lengths: &[u8],
+) -> Report
+    ensures after { config_of reader.new (S.meaning sheet.new) ≡ finish (run (config_of reader.old (S.meaning sheet.old)) stream.now) }
+    ensures report { result ≡ report_of (config_of reader.new (S.meaning sheet.new)) }
+    ensures tied { S.tied sheet.new ≡ S.tied sheet.old }
+{
+    if lengths.is_empty() {
+        return play_with(reader, sheet, &[Call::Feed(stream), Call::Finish]);
+    }
+    play_cut(reader, sheet, stream, lengths)
+}
 
 // Draws a job with a reader on a clear bit sheet in this memory, and prints it into a buffer.
 fn draw_on(
@@ -26,7 +47,7 @@ fn draw_on(
     ensures after { Came reader.new (drawing_by reader.old job.entry.side job.entry.stream.now) }
 {
     let mut sheet = raster::make(job.side, memory);
-    let report = play_cut(reader, &mut sheet, job.stream, lengths);
+    let report = play_stream(reader, &mut sheet, job.stream, lengths);
     Ok(print(&sheet, &report, out)?)
 }
 
