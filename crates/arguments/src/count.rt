@@ -3,7 +3,7 @@ ghost use Rattle.std.specs.Prelude.{◌≡◌, ◌+◌, ◌-◌, ◌*◌, ◌≤
 ghost use Rattle.statement.specs.Reading.{count, string};
 ghost use Rattle.arguments.specs.Stops.{long_count_by, count_front, string_front, StringLies, StringStandsBy};
 
-use statement::limits::LONGEST_NAME;
+pub use statement::limits::{LONGEST_NAME, LONGEST_STRING};
 use statement::types::{Fault, Part, Stop};
 
 // The count of two bytes.

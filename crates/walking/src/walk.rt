@@ -7,7 +7,7 @@ ghost use Rattle.walking.specs.Stories.{end_at, from_place, BeginsWith, Moved, S
 use crate::walker::{End, Placed, Walker};
 use parsing::read::read;
 use spelling::extent::extent;
-use statement::limits::LONGEST_STREAM;
+pub use statement::limits::LONGEST_STREAM;
 use statement::types::{Fault, Standing, Statement, Stop};
 
 // The statement at the front of the bytes, spelt as it was read; apart, since here the proof knows that they are bytes.
