@@ -1,5 +1,5 @@
 // Lines for statements and for the end of a stream.
-// Numbers are put by `itoa`: a `format!` made a String for each, and took the listing of a stream half as long again.
+// Numbers in the lines of statements are put by `itoa`: a `format!` made a String for each, and the listing of a stream took up to twice as long.
 ghost use Rattle.std.specs.Prelude.{◌≡◌, [], ◌∷◌, ◌++◌, decimal, OnOk};
 ghost use Rattle.statement.specs.Views.{said_by, tail_said};
 ghost use Rattle.walking.specs.Stories.{told_by};

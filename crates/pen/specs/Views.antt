@@ -16,13 +16,13 @@ use Rattle.pen.specs.declared.types.Pen.{Pen}
 abbrev pub points_of : MarkStack → List Point
 points_of s = take s.used s.points
 
--- two points have the same coordinates
-abbrev pub same_point : Point → Point → Bool
-same_point p q = int_eq p.x q.x && int_eq p.y q.y
-
 -- the same, the last of them first
 abbrev pub stacked : MarkStack → List Point
 stacked s = reverse (points_of s)
+
+-- two points have the same coordinates
+abbrev pub same_point : Point → Point → Bool
+same_point p q = int_eq p.x q.x && int_eq p.y q.y
 
 abbrev pub ink_of : Pen → Meaning → Ink
 ink_of p m = record { beam = p.beam; mode = p.mode; intensity = p.intensity; marks = stacked p.marks; sheet = m }

@@ -4,7 +4,7 @@ ghost use Rattle.std.specs.Prelude.{◌≡◌, ◌<◌, ◌≤◌, [], ◌∷◌
 use statement::limits::LONGEST_SPELLING;
 
 // The bytes of a statement that has begun: the first of these.
-// No `ArrayVec`: its `clear` blanks every byte, and with it a stream of short statements took up to twice as long.
+// No `ArrayVec`: its `clear` blanks every byte, and with it a stream of short statements took a third longer and more.
 #[derive(Drop)]
 pub(crate) struct Held {
     bytes: [u8; LONGEST_SPELLING],
