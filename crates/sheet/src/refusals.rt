@@ -32,6 +32,7 @@ impl Unfit {
     pub fn number(self) -> u8
         ensures { result ≡ unfit_number self }
     {
+        // Each variant's number is its discriminant.
         self as u8
     }
 }

@@ -82,9 +82,10 @@ impl<'a> Sheet for StrokeTable<'a> {
         if !on_sheet(self.side, pixel) {
             return false;
         }
+        let strokes = self.strokes();
         // Loops that a label leaves from inside, and no `any`: the project fixes this form.
         'strokes: {
-            for stroke in self.strokes() {
+            for stroke in strokes {
                 match stroke.kind {
                     Kind::Dot => {
                         if dot_inks(self.side, stroke.from, pixel) {

@@ -1,4 +1,4 @@
-use Rattle.std.proofs.Common.{◌<◌, sym, ap, ◌+◌, ◌∙◌, arith}
+use Rattle.std.proofs.Common.{◌<◌, sym, ◌∙◌, arith}
 use Rattle.specimen_page.specs.Rows.{inked_in}
 use Rattle.specimen_page.proofs.Counts.{one_counted, none_counted, all_counted}
 use Rattle.specimen_page.proofs.rows.inked_in_row.Goals as goal
@@ -12,8 +12,8 @@ loop-column-preserved g c =
     let h : k < n = omega (arith, c.loop-column-test.true, c.loop-column.auto.column-end, c.pixels-column-end.ensures, c.side.ensures) in
     let i = c.loop-column.invariant in
     elim c.if-is_inked.branch [
-      | then-is_inked w ↦ (omega (arith, i.0, w.count-is), w.count-is ∙ ap (λ z. z + 1) i.1 ∙ sym (one_counted p n k h (sym c.is_inked.ensures ∙ w.if-is_inked.true)))
-      | else-is_inked w ↦ (omega (arith, i.0, w.count-is), w.count-is ∙ i.1 ∙ sym (none_counted p n k h (sym c.is_inked.ensures ∙ w.if-is_inked.false)))
+      | then-is_inked w ↦ (omega (arith, i.0, w.count-is), omega (arith, i.1, w.count-is, one_counted p n k h (sym c.is_inked.ensures ∙ w.if-is_inked.true)))
+      | else-is_inked w ↦ (omega (arith, i.0, w.count-is), omega (arith, i.1, w.count-is, none_counted p n k h (sym c.is_inked.ensures ∙ w.if-is_inked.false)))
     ]
 
 pub returns-clause-value : goal.returns-clause-value

@@ -3,9 +3,9 @@ use Rattle.mark.specs.Covers.{any_below, line_inks_at, letter_inks_at, rows_ink}
 use Rattle.strokes.specs.Tables.{inked_by}
 use Rattle.strokes.proofs.table.StrokeTableSheet.inked.Given as goal
 
--- no stroke so far inks the pixel
+-- the loop goes over the strokes that the table holds, and none so far inks the pixel
 abbrev pub invariant-loop-stroke : goal.invariant-loop-stroke
-invariant-loop-stroke l = inked_by l.self.side.pixels (take l.stroke-index l.stroke-items) l.pixel ≡ false
+invariant-loop-stroke l = (l.strokes ≡ take l.self.count l.self.strokes.now) × (inked_by l.self.side.pixels (take l.stroke-index l.strokes) l.pixel ≡ false)
 
 -- no point of the line so far
 abbrev pub invariant-loop-k : goal.invariant-loop-k
