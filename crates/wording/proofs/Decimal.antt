@@ -1,15 +1,15 @@
 -- A number is read in the one form in which it is written.
-use Rattle.std.proofs.Common.{◌≡◌, ℕ, zero, suc, ◌+◌, ◌-◌, ◌*◌, ◌^◌, ◌<◌, ◌≤◌, Bool, true, false, cond, ◌&&◌, leb, List, [], ◌∷◌, length, get_or, ℤ, pos, neg_ℤ, Some, None, codes, decimal, Option, Result, sym, refl, ap, ◌∙◌, arith}
+use Rattle.std.proofs.Common.{◌≡◌, ℕ, zero, suc, ◌+◌, ◌-◌, ◌*◌, ◌^◌, ◌<◌, ◌≤◌, Bool, true, false, cond, ◌&&◌, leb, List, [], ◌∷◌, length, get_or, ℤ, pos, neg_ℤ, Some, None, codes, decimal, Option, Result, Ok, Err, ◌≢◌, sym, refl, ap, ◌∙◌, arith}
 use Rattle.std.specs.Char.{is_ascii_digit}
 use Rattle.std.specs.Fmt.{signed_decimal}
-use Rattle.std.specs.Result.{result_ok}
+use Rattle.std.specs.Result.{result_ok, OkIff}
 use Rattle.std.specs.Str.{all_ascii_digits, IsUtf8}
 use Rattle.std.specs.Str.Parse.{ParsesUnsigned}
 use Rattle.std.proofs.lemmas.Fmt.{decimal-digits_value, IsAscii-from_digits}
 use Rattle.std.proofs.lemmas.Str.{IsUtf8-from_ascii}
-use Rattle.std.proofs.lemmas.Str.Parse.{IsNumeralModel, numerals_by_fold, tells_all_ascii_digits, digits_value_short, parse_gives}
+use Rattle.std.proofs.lemmas.Str.Parse.{IsNumeralModel, numerals_by_fold, tells_all_ascii_digits, digits_value_short, parse_plain}
 use Rattle.std.proofs.lemmas.Option.{cond_some}
-use Rattle.std.proofs.lemmas.Bool.{and_parts, leb-true}
+use Rattle.std.proofs.lemmas.Bool.{and_parts, and_from, and_right, leb-true}
 use Rattle.std.proofs.lemmas.Bool.Decides.{nat_tests}
 use Rattle.wording.specs.Numerals.{is_short, number_after, number_in, up_to, value_in, negated, unsigned, signed_in, coordinate_in}
 use Rattle.wording.specs.Texts.{given, behind}
@@ -38,24 +38,36 @@ some_digit ds e = grind (arith, nat_tests)
 first_digit : (ds : List ℕ) → is_short ds ≡ true → get_or ds 0 0 ≡ 48 → length ds ≡ 1
 first_digit ds e z = grind (arith, nat_tests)
 
--- what is short and of digits is a number, and nothing else is
-pub no_number : (ds : List ℕ) → all_ascii_digits ds ≡ false → None ≡ number_in ds
-no_number ds d = sym (ap (λ o. cond (is_short ds) o None) (number_is 0 ds ∙ ap (λ b. cond b (Some (sum 0 ds)) None) d) ∙ same_both (is_short ds))
-  where
-    same_both : (b : Bool) → ◌≡◌ {A = Option ℕ} (cond b None None) None
-    same_both true = refl
-    same_both false = refl
-
-pub parsed : {E : Type 0} (ds : List ℕ) (r : Result ℕ E) → is_short ds ≡ true → all_ascii_digits ds ≡ true → ParsesUnsigned 32 10 ds r → result_ok r ≡ number_in ds
-parsed ds r s d h =
-    ap result_ok (parse_gives own 32 ds r h d (some_digit ds s) (omega (arith, digits_value_short own ds 5 d (few ds s))))
-    ∙ sym (ap (λ b. cond b (number_after 0 ds) None) s ∙ number_is 0 ds ∙ ap (λ b. cond b (Some (sum 0 ds)) None) d)
-
 pub digits_utf8 : (ds : List ℕ) → all_ascii_digits ds ≡ true → IsUtf8 ds
 digits_utf8 ds d = IsUtf8-from_ascii ds (IsAscii-from_digits ds (own.to ds d))
 
 number_once : (ds : List ℕ) → number_in ds ≡ cond (is_short ds && all_ascii_digits ds) (Some (sum 0 ds)) None
 number_once ds = ap (λ o. cond (is_short ds) o None) (number_is 0 ds) ∙ elim (is_short ds) as (λ b. cond b (cond (all_ascii_digits ds) (Some (sum 0 ds)) None) None ≡ cond (b && all_ascii_digits ds) (Some (sum 0 ds)) None) [ true ↦ refl | false ↦ refl ]
+
+-- what is short and of digits is a number, and nothing else is
+pub no_number : (ds : List ℕ) → all_ascii_digits ds ≡ false → None ≡ number_in ds
+no_number ds d = sym (number_once ds ∙ ap (λ b. cond b (Some (sum 0 ds)) None) (and_right (is_short ds) (all_ascii_digits ds) d))
+
+pub not_utf8 : (ds : List ℕ) → ¬ (IsUtf8 ds) → None ≡ number_in ds
+not_utf8 ds n = go (all_ascii_digits ds) refl
+  where
+    go : (b : Bool) → all_ascii_digits ds ≡ b → None ≡ number_in ds
+    go true d = absurd (n (digits_utf8 ds d))
+    go false d = no_number ds d
+
+pub parsed : {E : Type 0} (ds : List ℕ) (r : Result ℕ E) → is_short ds ≡ true → get_or ds 0 0 ≢ 43 → ParsesUnsigned 32 10 ds r → result_ok r ≡ number_in ds
+parsed ds r s p h = go r (parse_plain own 32 ds r h p)
+  where
+    low : all_ascii_digits ds ≡ true → sum 0 ds < 2 ^ 32
+    low d = omega (arith, digits_value_short own ds 5 d (few ds s))
+
+    go : {E : Type 0} (r : Result ℕ E) → OkIff r ((all_ascii_digits ds ≡ true) × (0 < length ds) × (sum 0 ds < 2 ^ 32)) (sum 0 ds) → result_ok r ≡ number_in ds
+    go (Ok x) k = ap Some k.1 ∙ sym (number_once ds ∙ ap (λ b. cond b (Some (sum 0 ds)) None) (and_from (is_short ds) (all_ascii_digits ds) s k.0.0))
+    go (Err e) k = fails (all_ascii_digits ds) refl
+      where
+        fails : (b : Bool) → all_ascii_digits ds ≡ b → None ≡ number_in ds
+        fails true d = absurd (k (d, some_digit ds s, low d))
+        fails false d = no_number ds d
 
 pub number_written : (ds : List ℕ) (n : ℕ) → number_in ds ≡ Some n → decimal n ≡ ds
 number_written ds n e =

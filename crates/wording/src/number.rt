@@ -1,7 +1,5 @@
 // Numbers in decimal, in the one form in which a listing has them.
 ghost use Rattle.std.specs.Prelude.{◌≡◌};
-ghost use Rattle.std.specs.Char.{is_ascii_digit};
-ghost use Rattle.std.specs.List.{list_all};
 ghost use Rattle.wording.specs.Numerals.{is_short, number_in, value_in, coordinate_in, negated};
 
 use crate::split::after;
@@ -17,18 +15,11 @@ fn is_short(digits: &[u8]) -> bool
     }
 }
 
-// Whether the bytes are digits alone.
-fn are_digits(bytes: &[u8]) -> bool
-    ensures { result ≡ list_all is_ascii_digit bytes.now }
-{
-    bytes.iter().all(|b| b.is_ascii_digit())
-}
-
-// The number that a text writes, if it is one.
+// The number that a text writes, if it is one; `parse` would take a `+` besides.
 fn number_in(text: &[u8]) -> Option<u32>
     ensures { result ≡ number_in text.now }
 {
-    if !is_short(text) || !are_digits(text) {
+    if !is_short(text) || text[0] == b'+' {
         return None;
     }
     str::from_utf8(text).ok()?.parse().ok()
